@@ -322,7 +322,8 @@ fn columns_are_named_by_number_and_by_heading(rt: HostRuntime) -> Result<(), Fai
         let columns = columns_named(rt.alloc(), word, &headings, *count)?;
         assert!(rt; columns.as_slice() == *expected, "{word} of {count}");
     }
-    assert!(rt; columns_named(rt.alloc(), "name,1-2", &[], 2)?.as_slice() == [0, 1].as_slice());
+    let none: &[&str] = &[];
+    assert!(rt; columns_named(rt.alloc(), "name,1-2", none, 2)?.as_slice() == [0, 1].as_slice());
     Ok(())
 }
 
@@ -340,7 +341,8 @@ fn the_first_part_that_names_no_column_is_told(rt: HostRuntime) -> Result<(), Fa
     ] {
         assert!(rt; unknown_part(word, &headings, count) == unknown, "{word} of {count}");
     }
-    assert!(rt; unknown_part("1,id", &[], 3) == Some(1));
+    let none: &[&str] = &[];
+    assert!(rt; unknown_part("1,id", none, 3) == Some(1));
     Ok(())
 }
 
@@ -392,7 +394,8 @@ fn the_first_row_has_the_headings(rt: HostRuntime) -> Result<(), Fail> {
     let headings = headings_of(none, &rows);
     assert!(rt; headings.len() == 2 && headings[0].as_str() == "id" && headings[1].as_str() == "name");
     assert!(rt; headings_of(Request { has_header: false, ..none }, &rows).is_empty());
-    assert!(rt; headings_of(none, &[]).is_empty());
+    let no_rows: &[Vec<&str>] = &[];
+    assert!(rt; headings_of(none, no_rows).is_empty());
     Ok(())
 }
 

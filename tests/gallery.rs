@@ -189,6 +189,40 @@ fn cells_without_a_border_are_drawn(rt: HostRuntime) -> Result<(), Fail> {
 }
 
 #[test]
+fn rows_and_cells_of_ranges_are_drawn(rt: HostRuntime) -> Result<(), Fail> {
+    let text = options::rows_and_cells_of_ranges(rt.alloc())?;
+    let picture = "
++-------+-----+
+> name  > age |
++-------+-----+
+| Alice |  30 |
++-------+-----+
+> Bob   >   7 |
++-------+-----+
+";
+    assert!(rt; is_picture(text.as_str(), picture));
+    Ok(())
+}
+
+#[test]
+fn outline_within_the_frame_is_drawn(rt: HostRuntime) -> Result<(), Fail> {
+    let text = options::outline_within_the_frame(rt.alloc())?;
+    let picture = "
++---+---+---+---+
+| a | b | c | d |
++---*********---+
+| e * f | g > h |
++---*---+---*---+
+| i * j | k > l |
++---*********---+
+| m | n | o > p |
++---+---+---+---+
+";
+    assert!(rt; is_picture(text.as_str(), picture));
+    Ok(())
+}
+
+#[test]
 fn cells_of_one_object_and_not_of_another_are_drawn(rt: HostRuntime) -> Result<(), Fail> {
     let text = options::cells_of_one_object_and_not_of_another(rt.alloc())?;
     let picture = "

@@ -72,6 +72,22 @@ fn cell_over_two_rows_is_drawn(rt: HostRuntime) -> Result<(), Fail> {
 }
 
 #[test]
+fn joined_corners_are_drawn(rt: HostRuntime) -> Result<(), Fail> {
+    let text = recipes::joined_corners(rt.alloc())?;
+    let picture = "
+╔═══════╤═════╗
+║ name  │ age ║
+╟───────╁─────╢
+║ Alice ┃ 30  ║
+╟───────╀─────╢
+║ Bob   │ 7   ║
+╚═══════╧═════╝
+";
+    assert!(rt; is_picture(text.as_str(), picture));
+    Ok(())
+}
+
+#[test]
 fn texts_from_outside_are_drawn(rt: HostRuntime) -> Result<(), Fail> {
     let text = recipes::texts_from_outside(rt.alloc())?;
     let picture = "

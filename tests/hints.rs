@@ -6,6 +6,7 @@ use tabled_color::{BorderColor, Color};
 use tabled_config::{
     CellOption, ColoredConfig, CompactConfig, CompactMultilineConfig, TableOption,
 };
+use tabled_correction::JoinedCorners;
 use tabled_formatting::{
     Alignment, AlignmentStrategy, Justification, Margin, MarginColor, Padding, PaddingColor, Shadow,
     TrimStrategy,
@@ -117,6 +118,7 @@ fn texts_corrections_and_margins_change_the_sizes(rt: HostRuntime) -> Result<(),
     let margin: MarginColor<ANSIStr<'static>> = MarginColor::empty();
     assert!(rt; of_table(&title(rt.alloc())?) == ALL);
     assert!(rt; of_table(&BorderCorrection::span()) == ALL);
+    assert!(rt; of_table(&JoinedCorners::new()) == ALL);
     assert!(rt; of_table(&Shadow::new(1)) == ALL);
     assert!(rt; of_table(&Margin::new(1, 0, 0, 0)) == ALL);
     assert!(rt; of_table(&margin) == ALL);

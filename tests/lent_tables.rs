@@ -161,6 +161,30 @@ fn spans_and_padding_are_printed(rt: HostRuntime) -> Result<(), Fail> {
 }
 
 #[test]
+fn a_lent_table_is_fitted_without_a_copy(rt: HostRuntime) -> Result<(), Fail> {
+    let alloc = rt.alloc();
+    let mut table = LentTable::new(alloc, &[&["tea", "leaves in hot water"]])?;
+    table.with(Style::ascii())?;
+    let fitted = table.fitted(19, Overflow::WrapWords)?;
+    let text = fitted.to_text()?;
+    assert!(rt; text.as_str() == "+-----+-----------+\n| tea | leaves in |\n|     | hot water |\n+-----+-----------+");
+    Ok(())
+}
+
+#[test]
+fn a_lent_table_is_cleaned_without_a_copy(rt: HostRuntime) -> Result<(), Fail> {
+    let alloc = rt.alloc();
+    let mut table = LentTable::new(alloc, &[&["a\u{1b}[31m", "b"]])?;
+    table.with(Style::ascii())?;
+    assert!(rt; !table.is_clean());
+    let cleaned = table.cleaned()?;
+    assert!(rt; cleaned.is_clean());
+    let text = cleaned.to_text()?;
+    assert!(rt; text.as_str() == "+--------+---+\n| a␛[31m | b |\n+--------+---+");
+    Ok(())
+}
+
+#[test]
 fn rows_of_unequal_counts_are_refused(rt: HostRuntime) -> Result<(), Fail> {
     let alloc = rt.alloc();
     let rows = vec![in alloc; vec![in alloc; "a", "b"]?, vec![in alloc; "c"]?]?;

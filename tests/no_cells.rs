@@ -5,6 +5,7 @@ use std::alloc::Global;
 use std::test::Fail;
 use tabled_color::{BorderColor, Color};
 use tabled_config::{CellOption, ColoredConfig, TableOption};
+use tabled_correction::JoinedCorners;
 use tabled_formatting::{
     Alignment, AlignmentStrategy, Justification, Margin, MarginColor, Padding, PaddingColor, Shadow,
     TrimStrategy,
@@ -117,6 +118,7 @@ fn borders_show_nothing(alloc: Global, shape: (usize, usize)) -> Result<bool, Ou
             && with(alloc, shape, tabled_grid::Border::filled('#'))?
             && with(alloc, shape, EmptyBorder)?
             && with(alloc, shape, BorderCorrection::span())?
+            && with(alloc, shape, JoinedCorners::new())?
             && with(alloc, shape, Borders::<char>::empty())?,
     )
 }
@@ -308,7 +310,7 @@ fn settings_of_cells_are_made(rt: HostRuntime) -> Result<(), Fail> {
     Ok(())
 }
 
-/// Whether spans of each count are set, corrected and taken back, at each position.
+/// Whether spans of each count are set, corrected, joined and taken back, at each position.
 fn spans_show_nothing(alloc: Global, shape: (usize, usize)) -> Result<bool, OutOfMemory> {
     for number in NUMBERS {
         let mut table = framed(alloc, shape)?;
@@ -317,6 +319,7 @@ fn spans_show_nothing(alloc: Global, shape: (usize, usize)) -> Result<bool, OutO
             table.cfg_mut().set_column_span(position, count)?;
             table.cfg_mut().set_row_span(position, count)?;
             table.with(BorderCorrection::span())?;
+            table.with(JoinedCorners::new())?;
         }
         table.cfg_mut().set_column_span(position, 1)?;
         table.cfg_mut().set_row_span(position, 0)?;

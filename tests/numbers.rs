@@ -1,6 +1,7 @@
 //! Which texts are numbers.
 
-use tabled_numbers::is_number;
+use std::test::Fail;
+use tabled_numbers::{is_number, is_numeric};
 
 /// Texts that are numbers.
 static NUMBERS: [&str; 24] = [
@@ -31,4 +32,32 @@ fn other_texts_are_no_numbers(rt: HostRuntime) {
     for text in ["٣", "７", "−7", "1\u{a0}000", "7\n", "7\r", "\t7", "1\u{0}"] {
         assert!(rt; !is_number(text), "{text:?}");
     }
+}
+
+/// Cells of a column, between spaces, and whether it is one of numbers.
+static COLUMNS: [(&str, bool); 12] = [
+    ("1 2 30%", true),
+    ("1 - 2", true),
+    ("n/a 7", true),
+    ("N/A 7 NULL null NaN nan", true),
+    ("- -", false),
+    ("n/a null", false),
+    ("7 none", false),
+    ("7 --", false),
+    ("7 na", false),
+    ("7 n/a.", false),
+    ("7 x", false),
+    ("", false),
+];
+
+#[test]
+fn columns_of_numbers_may_have_cells_that_say_none(rt: HostRuntime) -> Result<(), Fail> {
+    for (cells, is) in COLUMNS {
+        let mut rows = Vec::new(rt.alloc());
+        for cell in cells.split(' ') {
+            rows.push(vec![in rt.alloc(); cell]?)?;
+        }
+        assert!(rt; is_numeric(&rows, 0) == is, "{cells}");
+    }
+    Ok(())
 }

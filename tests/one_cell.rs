@@ -5,6 +5,7 @@ use std::alloc::Global;
 use std::test::Fail;
 use tabled_color::Color;
 use tabled_config::{CellOption, ColoredConfig, PrintError, TableOption};
+use tabled_correction::JoinedCorners;
 use tabled_formatting::{Padding, Shadow};
 use tabled_grid::{
     Border, Cell, Columns, Entity, FixedDimension, Object, Offset, OutOfMemory, Place, Position,
@@ -300,6 +301,7 @@ fn spanned(
     table.cfg_mut().set_column_span(position, columns)?;
     table.cfg_mut().set_row_span(position, rows)?;
     table.with(BorderCorrection::span())?;
+    table.with(JoinedCorners::new())?;
     table.returned(alloc)
 }
 

@@ -269,7 +269,7 @@ fn fields_of_themes(_rt: HostRuntime) -> Result<(), Fail> {
 #[test]
 fn texts_and_outlines(rt: HostRuntime) -> Result<(), Fail> {
     use tabled_grid::{Column, FirstColumn, FirstRow, LastColumn, LastColumnOffset, LastRow, LastRowOffset, Row};
-    use tabled_options::{BorderCorrection, LineChar};
+    use tabled_options::{BorderCorrection, JoinedCorners, LineChar};
     is_table_option::<LineText<Row>>();
     is_table_option::<LineText<FirstRow>>();
     is_table_option::<LineText<LastRow>>();
@@ -292,6 +292,8 @@ fn texts_and_outlines(rt: HostRuntime) -> Result<(), Fail> {
     let _: Highlight<SegmentAll> = highlight.color(BorderColor::new()).diagonal('x');
     is_table_option::<BorderCorrection>();
     let _: BorderCorrection = BorderCorrection::span();
+    is_table_option::<JoinedCorners>();
+    let _: JoinedCorners = JoinedCorners::new();
     Ok(())
 }
 

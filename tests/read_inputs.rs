@@ -3,20 +3,20 @@
 use std::alloc::Global;
 use std::io::Cursor;
 use std::test::Fail;
-use tabled_input::{Cells, InputError, columns_of, head, number_rows, read_input, read_rows, spaced};
+use tabled_input::{Cells, Input, InputError, columns_of, head, put_before, read_input, row_numbers, spaced};
 
-/// The rows of an input, or why it has none.
-fn rows(alloc: Global, cells: Cells, input: &[u8]) -> Result<Vec<Vec<String>>, InputError> {
-    read_rows(alloc, cells, &mut Cursor::new(input))
+/// An input that is read, or why it has no rows.
+fn rows(alloc: Global, cells: Cells, input: &[u8]) -> Result<Input, InputError> {
+    Input::read(alloc, cells, &mut Cursor::new(input))
 }
 
 /// The cells between bars, and the rows between slashes.
-fn written(alloc: Global, rows: &[Vec<String>]) -> Result<String, Fail> {
+fn written(alloc: Global, rows: &[Vec<&str>]) -> Result<String, Fail> {
     let mut text = String::new(alloc);
     for row in rows {
         for cell in row {
             text.push('|')?;
-            text.push_str(cell.as_str())?;
+            text.push_str(cell)?;
         }
         text.push('/')?;
     }
@@ -41,10 +41,11 @@ fn rows_are_read(rt: HostRuntime) -> Result<(), Fail> {
         (Cells::Quoted(';'), "a;b, c\n;é\n"),
     ] {
         match rows(rt.alloc(), cells, input.as_bytes()) {
-            Ok(rows) => {
+            Ok(read) => {
+                let rows = read.rows(rt.alloc())?;
                 assert!(rt; rows.len() == 2 && rows[0].len() == 2 && rows[1].len() == 2, "{input}");
-                assert!(rt; rows[0][0].as_str() == "a" && rows[0][1].as_str() == "b, c", "{input}");
-                assert!(rt; rows[1][0].as_str() == "" && rows[1][1].as_str() == "é", "{input}");
+                assert!(rt; rows[0][0] == "a" && rows[0][1] == "b, c", "{input}");
+                assert!(rt; rows[1][0] == "" && rows[1][1] == "é", "{input}");
             }
             Err(_) => assert!(rt; false, "{input}"),
         }
@@ -90,14 +91,17 @@ fn one_byte_order_mark_is_dropped(rt: HostRuntime) -> Result<(), Fail> {
         (Cells::Spaced, " \u{feff}a b\n", "\u{feff}a"),
     ] {
         match rows(rt.alloc(), cells, input.as_bytes()) {
-            Ok(rows) => assert!(rt; rows.len() == 1 && rows[0][0].as_str() == cell, "{input:?}"),
+            Ok(read) => {
+                let rows = read.rows(rt.alloc())?;
+                assert!(rt; rows.len() == 1 && rows[0][0] == cell, "{input:?}");
+            }
             Err(_) => assert!(rt; false, "{input:?}"),
         }
     }
     for cells in [Cells::Separated(','), Cells::Quoted(','), Cells::Spaced] {
         for input in ["\u{feff}", "\u{feff}\r\n\n"] {
             match rows(rt.alloc(), cells, input.as_bytes()) {
-                Ok(rows) => assert!(rt; rows.is_empty(), "{input:?}"),
+                Ok(read) => assert!(rt; read.rows(rt.alloc())?.is_empty(), "{input:?}"),
                 Err(_) => assert!(rt; false, "{input:?}"),
             }
         }
@@ -240,7 +244,7 @@ fn few_bytes_make_few_cells(rt: HostRuntime) -> Result<(), Fail> {
     }
     let cells = spaced(rt.alloc(), text.as_str())?;
     assert!(rt; cells.len() == 10_001 && cells[0].len() == 5, "{}", cells[0].len());
-    assert!(rt; cells[0][0].as_str() == "a" && cells[10_000][3].as_str() == "b");
+    assert!(rt; cells[0][0] == "a" && cells[10_000][3] == "b");
     assert!(rt; cells[10_000][4].len() == 2 * (20_000 - 4) - 1);
     Ok(())
 }
@@ -284,9 +288,11 @@ fn rows_are_numbered(rt: HostRuntime) -> Result<(), Fail> {
             "|#|h/|1|a/|2|b/|3|c/|4|d/|5|e/|6|f/|7|g/|8|h/|9|i/|10|j/",
         ),
     ] {
-        let mut cells = spaced(rt.alloc(), text)?;
-        number_rows(rt.alloc(), &mut cells, has_header)?;
-        assert!(rt; written(rt.alloc(), &cells)?.as_str() == rows, "{has_header} {text:?}");
+        let cells = spaced(rt.alloc(), text)?;
+        let numbers = row_numbers(rt.alloc(), cells.len(), has_header)?;
+        let mut numbered = cells;
+        put_before(&mut numbered, &numbers)?;
+        assert!(rt; written(rt.alloc(), &numbered)?.as_str() == rows, "{has_header} {text:?}");
     }
     Ok(())
 }

@@ -393,6 +393,21 @@ fn other_refusals_have_their_texts(rt: HostRuntime) -> Result<(), Fail> {
 }
 
 #[test]
+fn what_is_not_seen_is_shown_in_refusals(rt: HostRuntime) -> Result<(), Fail> {
+    let column = "\"na�me\" of --right is no column that is shown (give its heading, or its number)";
+    assert!(rt; refuses(rt.alloc(), "--right|na\u{200b}me", b"name\n", 2, column)?);
+    for unseen in ["\u{ad}", "\u{200d}", "\u{fe0f}", "\u{feff}", "\u{e0041}"] {
+        let word = format!(in rt.alloc(); "a{unseen}b|c")?;
+        let told = "\"c\" is a second file (one file is read, or standard input)";
+        assert!(rt; refuses(rt.alloc(), word.as_str(), b"", 2, told)?);
+        let word = format!(in rt.alloc(); "--style|a{unseen}b")?;
+        let told = "\"a�b\" is no value of --style (the name of a style, which --styles shows)";
+        assert!(rt; refuses(rt.alloc(), word.as_str(), b"", 2, told)?, "{unseen:?}");
+    }
+    Ok(())
+}
+
+#[test]
 fn the_program_tells_of_itself(rt: HostRuntime) -> Result<(), Fail> {
     assert!(rt; shows(rt.alloc(), "--csv|--version|no file", PIPE, "\"", "tabled_view 0.1.0\n")?);
     let words = words_of(rt.alloc(), "--styles")?;

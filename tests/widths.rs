@@ -154,6 +154,44 @@ fn accents_stay_with_their_letters(rt: HostRuntime) -> Result<(), Fail> {
 }
 
 #[test]
+fn vowel_signs_stay_with_their_letters(rt: HostRuntime) -> Result<(), Fail> {
+    let alloc = rt.alloc();
+    assert_eq!(rt; width_of("हिन्दी"), 5);
+    assert!(rt; is_wrapped(alloc, "हिन्दी", 4, "हिन्\nदी")?);
+    assert!(rt; is_wrapped(alloc, "हिन्दी", 1, "हि\nन्\nदी")?);
+    assert_eq!(rt; width_of("নীতি"), 4);
+    assert!(rt; is_wrapped(alloc, "নীতি", 3, "নী\nতি")?);
+    assert!(rt; is_in_words(alloc, "নীতি নীল", 3, "নী\nতি\nনীল")?);
+    assert!(rt; is_cut(alloc, "নীতি", 3, "…", "নী…")?);
+    assert!(rt; is_cut(alloc, "নীতি", 2, "…", "…")?);
+    assert!(rt; is_wrapped(alloc, "தமிழ்", 2, "த\nமி\nழ்")?);
+    Ok(())
+}
+
+#[test]
+fn spacing_marks_are_those_of_unicode(rt: HostRuntime) -> Result<(), Fail> {
+    for mark in [
+        "\u{903}", "\u{93b}", "\u{93e}", "\u{94f}", "\u{983}", "\u{9c0}", "\u{a40}", "\u{b03}", "\u{bbf}", "\u{bcc}",
+        "\u{c44}", "\u{d40}", "\u{df3}", "\u{f7f}", "\u{102b}", "\u{17c8}", "\u{1b44}", "\u{302e}", "\u{aa4d}",
+        "\u{abec}", "\u{11000}", "\u{1134d}", "\u{11ef6}", "\u{16f87}", "\u{1d172}",
+    ] {
+        assert!(rt; first_cluster(mark).is_some_and(|(_, rest)| rest.is_empty()));
+        let mut text = String::from_str(rt.alloc(), "क")?;
+        text.push_str(mark)?;
+        assert!(rt; first_cluster(text.as_str()).is_some_and(|(_, rest)| rest.is_empty()), "{mark}");
+    }
+    for letter in [
+        "~", "é", "\u{904}", "\u{939}", "\u{93d}", "\u{950}", "\u{984}", "\u{9bd}", "\u{bb9}", "\u{bd0}", "\u{f40}",
+        "\u{102a}", "\u{104a}", "\u{3030}", "漢", "\u{aa50}", "\u{11003}", "\u{11350}", "\u{16f93}", "\u{1d16a}",
+    ] {
+        let mut text = String::from_str(rt.alloc(), "क")?;
+        text.push_str(letter)?;
+        assert!(rt; first_cluster(text.as_str()).is_some_and(|(first, rest)| first == "क" && rest == letter), "{letter}");
+    }
+    Ok(())
+}
+
+#[test]
 fn accents_alone_are_one_cluster_of_no_columns(rt: HostRuntime) -> Result<(), Fail> {
     let alloc = rt.alloc();
     let marks = "\u{301}\u{302}\u{303}";

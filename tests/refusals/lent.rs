@@ -4,6 +4,7 @@ use crate::printing::Counts;
 use crate::sample::is_same;
 use crate::turn::{Named, Outcome, Turn};
 use std::alloc::Global;
+use tabled::texts::Overflow;
 use tabled::{LentTable, TableError};
 use tabled_config::ColoredConfig;
 use tabled_grid::{Cell, Keep, OutOfMemory};
@@ -120,6 +121,20 @@ fn of_printed(returned: Result<(), TableError>, printed: usize, wanted: usize) -
     }
 }
 
+/// What becomes of a cleaned table, which has texts of its own.
+fn clean(turn: &mut Turn) -> Result<Outcome, OutOfMemory> {
+    let (table, _copy) = table(turn.alloc())?;
+    turn.spend();
+    Ok(Outcome::of_value(table.cleaned().map(|made| made.texts().len() == 2)))
+}
+
+/// What becomes of a table that is kept narrow, which has texts of its own.
+fn fit(turn: &mut Turn) -> Result<Outcome, OutOfMemory> {
+    let (table, _copy) = table(turn.alloc())?;
+    turn.spend();
+    Ok(Outcome::of_value(table.fitted(5, Overflow::Wrap).map(|made| made.texts().len() == 2)))
+}
+
 /// What becomes of the text that is printed to a stream.
 fn print(turn: &mut Turn, with_colors: bool) -> Result<Outcome, OutOfMemory> {
     let (table, _copy) = table(turn.alloc())?;
@@ -147,7 +162,7 @@ fn print_between(turn: &mut Turn, with_colors: bool) -> Result<Outcome, OutOfMem
 }
 
 /// The calls of these tables.
-pub(crate) fn calls() -> [Named; 13] {
+pub(crate) fn calls() -> [Named; 15] {
     [
         ("LentTable<'a>::new", make),
         ("Table<T>::from_rows (lent)", make_of_rows),
@@ -156,6 +171,8 @@ pub(crate) fn calls() -> [Named; 13] {
         ("Table<T>::modify (lent)", |turn| modify(turn, true)),
         ("Table<T>::apply_to (lent)", |turn| modify(turn, false)),
         ("Table<T>::copied", copy),
+        ("Table<T>::cleaned", clean),
+        ("Table<T>::fitted", fit),
         ("Table<T>::to_text (lent)", |turn| text(turn, false)),
         ("Table<T>::to_ansi (lent)", |turn| text(turn, true)),
         ("Table<T>::print_to (lent)", |turn| print(turn, false)),

@@ -38,6 +38,7 @@ fn main(rt: HostRuntime) -> ExitCode {
             &values::clones(),
             &objects::named(),
             &objects::ends(),
+            &objects::ranges(),
             &objects::combined(),
             &settings::maps(),
             &settings::copies(),

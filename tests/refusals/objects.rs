@@ -2,7 +2,7 @@
 
 use crate::turn::{Named, Outcome, Turn};
 use tabled_border::OutOfMemory;
-use tabled_object::{Cell, Columns, Combine, Entity, Object, Position, Rows, Segment, Shape};
+use tabled_object::{Cell, Columns, Combine, Entity, Frame, Object, Position, Rows, Segment, Shape};
 
 /// What becomes of a listing: whether it has that many entities in a table of three rows and four columns.
 fn list<O: Object<Shape>>(
@@ -82,8 +82,38 @@ pub(crate) fn ends() -> [Named; 6] {
     ]
 }
 
+/// Rows, columns and cells of ranges, and the outermost cells.
+pub(crate) fn ranges() -> [Named; 6] {
+    [
+        (
+            "<RowRange as Object<R>>::cells",
+            |turn| list(turn, &Rows::new(1..), 2),
+        ),
+        (
+            "<ColumnRange as Object<R>>::cells",
+            |turn| list(turn, &Columns::new(..=2), 3),
+        ),
+        (
+            "<RowStep as Object<R>>::cells",
+            |turn| list(turn, &Rows::new(..).step_by(2), 2),
+        ),
+        (
+            "<ColumnStep as Object<R>>::cells",
+            |turn| list(turn, &Columns::new(1..).step_by(2), 2),
+        ),
+        (
+            "<SegmentRange as Object<R>>::cells",
+            |turn| list(turn, &Segment::new(1.., 2..), 4),
+        ),
+        (
+            "<Frame as Object<R>>::cells",
+            |turn| list(turn, &Frame, 10),
+        ),
+    ]
+}
+
 /// Objects of several entities.
-pub(crate) fn combined() -> [Named; 6] {
+pub(crate) fn combined() -> [Named; 7] {
     [
         (
             "<Union<A, B> as Object<R>>::cells",
@@ -100,6 +130,10 @@ pub(crate) fn combined() -> [Named; 6] {
                     3,
                 )
             },
+        ),
+        (
+            "<Intersection<A, B> as Object<R>>::cells",
+            |turn| { list(turn, &Rows::one(1).and((0, 2)).intersect(Columns::new(1..3)), 3) },
         ),
         (
             "<&'a [Entity] as Object<R>>::cells",

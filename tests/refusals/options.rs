@@ -6,6 +6,7 @@ use crate::values::{margin, padding, three};
 use std::alloc::Global;
 use tabled_color::{BorderColor, Color};
 use tabled_config::{ColoredConfig, CompactConfig, CompactMultilineConfig, TableOption};
+use tabled_correction::JoinedCorners;
 use tabled_formatting::{
     Alignment, AlignmentStrategy, Justification, Margin, MarginColor, Padding, PaddingColor, Shadow,
     TrimStrategy,
@@ -166,7 +167,7 @@ fn theme(alloc: Global) -> Result<Theme, OutOfMemory> {
 }
 
 /// The options of borders.
-pub(crate) fn borders() -> [Named; 12] {
+pub(crate) fn borders() -> [Named; 13] {
     [
         (
             "<BorderColor as TableOption<R, ColoredConfig, D>>::change",
@@ -223,6 +224,10 @@ pub(crate) fn borders() -> [Named; 12] {
         (
             "<BorderCorrection as TableOption<R, ColoredConfig, D>>::change",
             |turn| change(turn, Sample::spanned, |_| Ok(BorderCorrection::span())),
+        ),
+        (
+            "<JoinedCorners as TableOption<R, ColoredConfig, D>>::change",
+            |turn| change(turn, Sample::unjoined, |_| Ok(JoinedCorners::new())),
         ),
     ]
 }

@@ -5,9 +5,9 @@ use std::alloc::Global;
 use std::env::{Env, FillError};
 use std::io;
 use std::io::{Cursor, ErrorKind, Write};
-use tabled_input::{CsvError, columns_of, csv, number_rows, spaced};
+use tabled_input::{CsvError, columns_of, csv, put_before, row_numbers, spaced};
 use tabled_grid::OutOfMemory;
-use tabled_input::{Cells, InputError, read_input, read_rows};
+use tabled_input::{Cells, Input, InputError, read_input};
 use tabled_pages::{ShowError, all_words, run};
 use tabled_request::{GivenError, Request, Surroundings, all_sides, columns_named, named_cells, spread_words};
 use tabled_viewing::{Notes, ViewError, noted, said, understood};
@@ -172,7 +172,7 @@ pub(crate) fn calls() -> [Named; 6] {
 }
 
 /// The calls of the other program.
-pub(crate) fn views() -> [Named; 17] {
+pub(crate) fn views() -> [Named; 20] {
     [
         ("tabled_viewing::run", |turn| view(turn, "--style ascii --no-numbers", "a\tb\n1\t22\n", PAGE)),
         ("tabled_viewing::run (of CSV)", |turn| view(turn, "--style ascii --no-numbers --csv --fill", "a,b\n1,22\n", PAGE)),
@@ -223,36 +223,58 @@ pub(crate) fn views() -> [Named; 17] {
         ("spaced", |turn| {
             turn.spend();
             let rows = spaced(turn.alloc(), "a  b\nc d e\n");
-            Ok(Outcome::of_value(rows.map(|rows| rows.len() == 2 && rows[1][1].as_str() == "d e")))
+            Ok(Outcome::of_value(rows.map(|rows| rows.len() == 2 && rows[1][1] == "d e")))
         }),
         ("columns_of", |turn| {
             let mut rows = Vec::new(turn.alloc());
-            rows.push(words(turn.alloc(), "a 1")?)?;
+            rows.push(vec![in turn.alloc(); "a", "1"]?)?;
             turn.spend();
             let shown = columns_of(turn.alloc(), &rows, &[1, 0]);
-            Ok(Outcome::of_value(shown.map(|shown| shown[0][0].as_str() == "1")))
+            Ok(Outcome::of_value(shown.map(|shown| shown[0][0] == "1")))
         }),
-        ("number_rows", |turn| {
-            let mut rows = Vec::new(turn.alloc());
-            rows.push(words(turn.alloc(), "a 1")?)?;
+        ("row_numbers", |turn| {
             turn.spend();
-            let numbered = number_rows(turn.alloc(), &mut rows, false);
-            Ok(Outcome::of_value(numbered.map(|()| rows[0].len() == 3)))
+            let numbers = row_numbers(turn.alloc(), 2, true);
+            Ok(Outcome::of_value(numbers.map(|numbers| numbers[0].as_str() == "#" && numbers[1].as_str() == "1")))
+        }),
+        ("put_before", |turn| {
+            let numbers = words(turn.alloc(), "1")?;
+            let mut rows = Vec::new(turn.alloc());
+            rows.push(vec![in turn.alloc(); "a"]?)?;
+            turn.spend();
+            let put = put_before(&mut rows, &numbers);
+            Ok(Outcome::of_value(put.map(|()| rows[0].len() == 2 && rows[0][0] == "1")))
         }),
         ("csv", |turn| {
             turn.spend();
             let rows = csv(turn.alloc(), "a,\"b\"\n\"\"\"\"\n", ',');
-            Ok(made(rows.map(|rows| rows.len() == 2 && rows[1][0].as_str() == "\""), CsvError::OutOfMemory))
+            Ok(made(rows.map(|rows| rows.count() == 2), CsvError::OutOfMemory))
+        }),
+        ("JoinedRows::rows", |turn| {
+            let Ok(read) = csv(turn.alloc(), "a,\"b\"\n\"\"\"\"\n", ',') else {
+                return Err(OutOfMemory);
+            };
+            turn.spend();
+            let rows = read.rows(turn.alloc());
+            Ok(Outcome::of_value(rows.map(|rows| rows.len() == 2 && rows[1][0] == "\"")))
         }),
         ("read_input", |turn| {
             turn.spend();
             let bytes = read_input(turn.alloc(), 2, &mut Cursor::new(b"ab".as_slice()));
             Ok(made(bytes.map(|bytes| bytes.as_slice() == b"ab".as_slice()), InputError::OutOfMemory))
         }),
-        ("read_rows", |turn| {
+        ("Input::read", |turn| {
             turn.spend();
-            let rows = read_rows(turn.alloc(), Cells::Quoted(','), &mut Cursor::new(b"a,\"b\"\n".as_slice()));
-            Ok(made(rows.map(|rows| rows.len() == 1 && rows[0].len() == 2), InputError::OutOfMemory))
+            let read = Input::read(turn.alloc(), Cells::Quoted(','), &mut Cursor::new(b"a,\"b\"\n".as_slice()));
+            Ok(made(read.map(|_read| true), InputError::OutOfMemory))
+        }),
+        ("Input::rows", |turn| {
+            let Ok(read) = Input::read(turn.alloc(), Cells::Spaced, &mut Cursor::new(b"a b\n".as_slice())) else {
+                return Err(OutOfMemory);
+            };
+            turn.spend();
+            let rows = read.rows(turn.alloc());
+            Ok(Outcome::of_value(rows.map(|rows| rows.len() == 1 && rows[0].len() == 2)))
         }),
     ]
 }

@@ -113,6 +113,15 @@ impl Sample {
         Ok(sample)
     }
 
+    /// A table of light lines, some of which spans hide.
+    pub(crate) fn unjoined(alloc: Global) -> Result<Self, OutOfMemory> {
+        let mut sample = Sample::bare(alloc)?;
+        let config = sample.cfg.config_mut();
+        config.set_borders(Style::modern().get_borders());
+        config.set_column_span(Position::new(0, 0), 2)?;
+        Ok(sample)
+    }
+
     /// Whether it has the sizes it was made with.
     fn has_its_sizes(&self) -> bool {
         self.records == Shape { rows: 2, cols: 2 }

@@ -4,6 +4,7 @@
 #![tactic(auto)]
 
 pub mod colors;
+pub mod corners;
 pub mod csv;
 pub mod first_values;
 pub mod formats;

@@ -1,19 +1,23 @@
 //! Which cells an option is applied to.
 
-ghost use Rattle.std.specs.Prelude.{◌≡◌, ◌↔◌, ℕ, List, ◌++◌, ◌&&◌, ◌||◌, not, IfOk, IsOk, IsTrue, slice_index};
+ghost use Rattle.std.specs.Prelude.{◌≡◌, ◌↔◌, ℕ, List, ◌++◌, ◌&&◌, ◌||◌, not, nat_le, nat_lt, IfOk, IsOk, IsTrue, slice_index};
 ghost use Rattle.std.specs.List.{Contains};
 ghost use Rattle.tabled_object.specs.declared.entity.Entity.{Entity as Cells};
 ghost use Rattle.tabled_object.specs.declared.position.Position.{Position as At};
 ghost use Rattle.tabled_object.specs.Entities.{cells_of, covers, is_inside};
-ghost use Rattle.tabled_object.specs.Listing.{Lists, all_cells, one_row, first_row, last_row, row_above_last, one_column, first_column, last_column, column_before_last, one_cell, one_entity, listed, difference};
+ghost use Rattle.tabled_object.specs.Listing.{Lists, all_cells, one_row, first_row, last_row, row_above_last, one_column, first_column, last_column, column_before_last, one_cell, one_entity, covered, listed, difference, frame, intersection, is_outermost};
+ghost use Rattle.tabled_object.specs.Ranges.{contains, contains_step, rows_in, columns_in, cells_in, rows_on_step, columns_on_step};
 ghost use Rattle.tabled_object.specs.declared.records.Shape.{Shape as Counts};
+ghost use Rattle.std.specs.declared.ops.Bound.{Bound};
 
 use std::alloc::Global;
+use std::ops::RangeBounds;
 use tabled_border::OutOfMemory;
 use tabled_object::{
-    Cell, Column, Columns, Combine, Difference, Dimension, Entity, EntityIterator, ExactRecords,
-    FirstColumn, FirstRow, FixedDimension, LastColumn, LastColumnOffset, LastRow, LastRowOffset,
-    Object, Position, Records, Row, Rows, SegmentAll, Shape, Union,
+    Cell, Column, ColumnRange, ColumnStep, Columns, Combine, Difference, Dimension, Entity,
+    EntityIterator, ExactRecords, FirstColumn, FirstRow, FixedDimension, Frame, Intersection,
+    LastColumn, LastColumnOffset, LastRow, LastRowOffset, Object, Position, Records, Row, RowRange,
+    RowStep, Rows, Segment, SegmentAll, SegmentRange, Shape, Union,
 };
 
 /// The listing of an object of any type ends, and is the list that the object states, a function of it and of the counts of rows
@@ -61,6 +65,27 @@ pub fn columns_are_listed<R: Records + ExactRecords>(
     ensures before_last { (rows cols : ℕ) → ⟦<LastColumnOffset as Object<R>>⟧.listing before_last.now rows cols ≡ column_before_last before_last.now.offset cols }
 {}
 
+/// Ranges list the rows and columns of the table that they contain, or in steps; a segment of two lists the cells of both.
+pub fn ranges_are_listed<R: Records + ExactRecords>(
+    rows: &RowRange,
+    columns: &ColumnRange,
+    some_rows: &RowStep,
+    some_columns: &ColumnStep,
+    segment: &SegmentRange,
+)
+    ensures rows { (n m : ℕ) → ⟦<RowRange as Object<R>>⟧.listing rows.now n m ≡ rows_in rows.now.start rows.now.end n }
+    ensures columns { (n m : ℕ) → ⟦<ColumnRange as Object<R>>⟧.listing columns.now n m ≡ columns_in columns.now.start columns.now.end m }
+    ensures some_rows { (n m : ℕ) → ⟦<RowStep as Object<R>>⟧.listing some_rows.now n m ≡ rows_on_step some_rows.now.range.start some_rows.now.range.end some_rows.now.step n }
+    ensures some_columns { (n m : ℕ) → ⟦<ColumnStep as Object<R>>⟧.listing some_columns.now n m ≡ columns_on_step some_columns.now.range.start some_columns.now.range.end some_columns.now.step m }
+    ensures segment { (n m : ℕ) → ⟦<SegmentRange as Object<R>>⟧.listing segment.now n m
+        ≡ cells_in segment.now.rows.start segment.now.rows.end segment.now.cols.start segment.now.cols.end n m }
+    ensures rows_without_memory { ⟦<RowRange as Object<R>>⟧.takes_no_memory rows.now }
+    ensures columns_without_memory { ⟦<ColumnRange as Object<R>>⟧.takes_no_memory columns.now }
+    ensures some_rows_without_memory { ⟦<RowStep as Object<R>>⟧.takes_no_memory some_rows.now }
+    ensures some_columns_without_memory { ⟦<ColumnStep as Object<R>>⟧.takes_no_memory some_columns.now }
+    ensures segment_without_memory { ⟦<SegmentRange as Object<R>>⟧.takes_no_memory segment.now }
+{}
+
 /// A segment lists all cells, a cell, a position and an entity themselves; two objects list what the first and then what the
 /// second lists, and a difference the cells inside the table that the first covers and the second does not, in row order.
 pub fn other_objects_are_listed<R, A, B>(
@@ -102,6 +127,32 @@ pub fn listed_by_two()
         → listed (these ++ those) rows cols cell ≡ (listed these rows cols cell || listed those rows cols cell) }
     ensures without { (these those : List Cells) (rows cols : ℕ) (cell : At)
         → listed (difference these those rows cols) rows cols cell ≡ (listed these rows cols cell && not (listed those rows cols cell)) }
+{}
+
+/// Of the cells inside a table, a range of rows covers those whose row it contains, and no others; one of columns those whose column it
+/// contains; in steps, of these each that is whole steps from its start; and a segment those whose row and column its ranges contain.
+pub fn listed_by_ranges()
+    ensures rows { (start end : Bound ℕ) (rows cols : ℕ) (cell : At)
+        → listed (rows_in start end rows) rows cols cell ≡ (is_inside rows cols cell && contains start end cell.row) }
+    ensures columns { (start end : Bound ℕ) (rows cols : ℕ) (cell : At)
+        → listed (columns_in start end cols) rows cols cell ≡ (is_inside rows cols cell && contains start end cell.col) }
+    ensures some_rows { (start end : Bound ℕ) (step rows cols : ℕ) (cell : At)
+        → listed (rows_on_step start end step rows) rows cols cell ≡ (is_inside rows cols cell && contains_step start end step cell.row) }
+    ensures some_columns { (start end : Bound ℕ) (step rows cols : ℕ) (cell : At)
+        → listed (columns_on_step start end step cols) rows cols cell ≡ (is_inside rows cols cell && contains_step start end step cell.col) }
+    ensures segment { (first_row last_row first_col last_col : Bound ℕ) (rows cols : ℕ) (cell : At)
+        → listed (cells_in first_row last_row first_col last_col rows cols) rows cols cell
+        ≡ (is_inside rows cols cell && (contains first_row last_row cell.row && contains first_col last_col cell.col)) }
+{}
+
+/// What two objects have in common covers each cell inside the table that both cover, the inverse of an object each cell inside that the
+/// object does not cover, and a frame each outermost cell; none of them covers a cell outside.
+pub fn covered_cell_by_cell()
+    ensures both { (these those : List Cells) (rows cols : ℕ) (cell : At)
+        → covered (intersection these those rows cols) cell ≡ (is_inside rows cols cell && (covered these cell && covered those cell)) }
+    ensures inverse { (these : List Cells) (rows cols : ℕ) (cell : At)
+        → covered (difference all_cells these rows cols) cell ≡ (is_inside rows cols cell && not (covered these cell)) }
+    ensures outermost { (rows cols : ℕ) (cell : At) → covered (frame rows cols) cell ≡ (is_inside rows cols cell && is_outermost rows cols cell) }
 {}
 
 /// A pair of numbers, lent entities, a list and an array of entities list the cell that the pair names and the entities that stand
@@ -162,12 +213,69 @@ pub fn columns_named(index: usize, offset: usize) -> (Column, LastColumnOffset)
     (Columns::one(index), Columns::last().offset(offset))
 }
 
+/// The rows of a range in steps, the columns of another, and the cells of both.
+pub fn ranges_named<B, C>(rows: B, step: usize, cols: C) -> (RowStep, ColumnStep)
+where
+    B: RangeBounds<usize>,
+    C: RangeBounds<usize>,
+    ensures first_row { B.has_bounds rows → result.0.range.start ≡ B.start_bound rows }
+    ensures last_row { B.has_bounds rows → result.0.range.end ≡ B.end_bound rows }
+    ensures first_column { C.has_bounds cols → result.1.range.start ≡ C.start_bound cols }
+    ensures last_column { C.has_bounds cols → result.1.range.end ≡ C.end_bound cols }
+    ensures row_steps { result.0.step ≡ step }
+    ensures column_steps { result.1.step ≡ step }
+{
+    let SegmentRange { rows, cols } = Segment::new(rows, cols);
+    (rows.step_by(step), cols.step_by(step))
+}
+
+/// The range `first..end` contains the numbers from the first one on that are below the end, and `first..=last` the last one too.
+pub fn numbers_of_ranges(first: usize, end: usize) -> (RowRange, RowRange)
+    ensures below { (n : ℕ) → contains result.0.start result.0.end n ≡ (nat_le first n && nat_lt n end) }
+    ensures up_to { (n : ℕ) → contains result.1.start result.1.end n ≡ (nat_le first n && nat_le n end) }
+{
+    (Rows::new(first..end), Rows::new(first..=end))
+}
+
 /// One cell, and one position.
 pub fn cells_named(row: usize, col: usize) -> (Cell, Position)
     ensures cell { result.0 ≡ record { row = row; col = col } }
     ensures position { result.1 ≡ record { row = row; col = col } }
 {
     (Cell::new(row, col), Position::new(row, col))
+}
+
+/// Two objects list what they have in common, and the outermost cells are listed without memory.
+pub fn cells_are_listed<R, A, B>(both: &Intersection<A, B>, outermost: &Frame)
+where
+    R: Records + ExactRecords,
+    A: Object<R>,
+    B: Object<R>,
+    ensures both { (rows cols : ℕ) → ⟦<Intersection<A, B> as Object<R>>⟧.listing both.now rows cols
+        ≡ intersection (A.listing both.now.left rows cols) (B.listing both.now.right rows cols) rows cols }
+    ensures outermost { (rows cols : ℕ) → ⟦<Frame as Object<R>>⟧.listing outermost.now rows cols ≡ frame rows cols }
+    ensures without_memory { ⟦<Frame as Object<R>>⟧.takes_no_memory outermost.now }
+{}
+
+/// What two objects have in common, and the cells that an object does not cover, which are all without its own.
+pub fn objects_in_common<A: Combine, B, O: Combine>(
+    left: A,
+    right: B,
+    object: O,
+) -> (Intersection<A, B>, Difference<SegmentAll, O>)
+    ensures left { result.0.left ≡ left }
+    ensures right { result.0.right ≡ right }
+    ensures left_out { result.1.left_out ≡ object }
+{
+    (left.intersect(right), object.inverse())
+}
+
+/// The rows and the columns that are so many before the last one, by a minus sign.
+pub fn counted_back(rows: usize, columns: usize) -> (LastRowOffset, LastColumnOffset)
+    ensures row { result.0.offset ≡ rows }
+    ensures column { result.1.offset ≡ columns }
+{
+    (Rows::last() - rows, Columns::last() - columns)
 }
 
 /// Two objects as one, and one without another.

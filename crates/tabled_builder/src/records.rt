@@ -1,16 +1,18 @@
 //! Records that are filled up, and new ones.
 
 ghost use Rattle.std.specs.Prelude.{◌≡◌, ◌<◌, [], IfOk, OnOk, map, max, replicate, length};
+ghost use Rattle.tabled_cells.specs.TextsBy.{texts_by};
 ghost use Rattle.tabled_width.specs.Texts.{texts};
 ghost use Rattle.tabled_rows.specs.Rows.{HasRoom, filled_to};
 ghost use Rattle.tabled_builder.specs.Records.{columns};
 
 use std::alloc::Global;
+use std::convert::AsStr;
 use tabled_border::OutOfMemory;
 
 /// Returns how many texts the longest of records has.
-pub fn columns_of(records: &[Vec<String>]) -> usize
-    ensures { result ≡ columns (texts records.now) }
+pub fn columns_of<T: AsStr>(records: &[Vec<T>]) -> usize
+    ensures { result ≡ columns (texts_by T.text records.now) }
 {
     records.iter().map(|record| record.len()).max().unwrap_or(0)
 }

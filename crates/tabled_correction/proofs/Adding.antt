@@ -9,6 +9,7 @@ use Rattle.tabled_places.proofs.EntityBorders.{writes_made-append, nothing_writt
 use Rattle.tabled_configuration.specs.Configuration.{Configuration, cell_colors_of}
 use Rattle.tabled_changes.proofs.ColoredLemmas.{none_by_characters}
 use Rattle.tabled_correction.specs.Correction.{Write, Spanned, after_writes, columns_corrected, rows_corrected, inner_corrected, corrected, spanned, crossing_written, correction_events}
+use Rattle.tabled_correction.specs.Corners.{corners_of, joined_corner_events}
 use Rattle.tabled_configuration.proofs.Below.{flat_map_below}
 
 -- one number more
@@ -43,6 +44,10 @@ crossing_pushed start before after crossings i crossing entry so_far pushed is t
 pub none_in_correction : (shape : ℕ × ℕ) (cfg : Configuration) → cell_colors_of (correction_events shape cfg) ≡ []
 unfolding correction_events
 none_in_correction shape cfg = none_by_characters (map crossing_written (corrected (spanned shape cfg)))
+
+pub none_in_corners : (shape : ℕ × ℕ) (cfg : Configuration) → cell_colors_of (joined_corner_events shape cfg) ≡ []
+unfolding joined_corner_events
+none_in_corners shape cfg = none_by_characters (map crossing_written (corners_of shape cfg))
 
 -- three lists of crossings, written one after the other
 pub three_pushed : (none first_made second_made third_made : List (grid.Write ℕ)) (first second third : List Write) → none ≡ [] → writes_made first_made ≡ writes_made none ++ map crossing_written first → writes_made second_made ≡ writes_made first_made ++ map crossing_written second

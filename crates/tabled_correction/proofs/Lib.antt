@@ -1,6 +1,9 @@
 pub mod Adding
+pub mod CornerLaws
+pub mod CornersStanding
 pub mod CoveredLemmas
 pub mod InOrder
+pub mod LinesBelow
 pub mod Pictures
 pub mod Standing
 pub mod SpanEvents

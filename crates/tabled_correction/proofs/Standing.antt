@@ -33,7 +33,7 @@ use Rattle.tabled_correction.specs.Correction.{Write, last_at, written_over, Spa
 
 -- ---- the sites of written crossings
 
-abbrev own : ℕ → ℕ → Write → Bool
+abbrev pub own : ℕ → ℕ → Write → Bool
 own r c entry = same_position (position r c) entry.0
 
 last_written : (r c : ℕ) (before : Option Write) (writes : List Write) → last_or (option_map crossing_written before) (filter (covers (at_spot (Crossing r c))) (map crossing_written writes)) ≡ option_map crossing_written (last_or before (filter (own r c) writes))
@@ -82,11 +82,11 @@ covered_by_none site elsewhere (entry ∷ writes) = λ i. elsewhere entry.0.row 
 -- ---- two states, before and after the writes
 
 module _ (writes : List Write) (old new : Site → Option (Written ℕ)) (changes : grid.Changes (map crossing_written writes) old new) where
-  kept : (site : Site) → IsElsewhere site → new site ≡ old site
+  pub kept : (site : Site) → IsElsewhere site → new site ≡ old site
   unfolding grid.Changes
   kept site elsewhere = changes site ∙ ap (λ b. cond b (replay (map crossing_written writes) site) (old site)) (covered_by_none site elsewhere writes)
 
-  stands : (r c : ℕ) → new (at_spot (Crossing r c)) ≡ option_or (option_map sign (last_at writes (position r c))) (old (at_spot (Crossing r c)))
+  pub stands : (r c : ℕ) → new (at_spot (Crossing r c)) ≡ option_or (option_map sign (last_at writes (position r c))) (old (at_spot (Crossing r c)))
   unfolding grid.Changes
   stands r c = changes (at_spot (Crossing r c)) ∙ (λ i. cond (covered_at r c writes i) (left_at r c writes i) (old (at_spot (Crossing r c)))) ∙ by (last_at writes (position r c)) (old (at_spot (Crossing r c)))
     where
@@ -131,25 +131,25 @@ replayed_after events writes shape place there = standing_after writes (replay e
 
 -- ---- crossings outside the table are not written
 
-abbrev IsMissing : ℕ → ℕ → List Write → Type 0
+abbrev pub IsMissing : ℕ → ℕ → List Write → Type 0
 IsMissing r c writes = filter (λ entry. same_position (position r c) entry.0) writes ≡ []
 
 missing_both : (r c : ℕ) (xs ys : List Write) → IsMissing r c xs → IsMissing r c ys → IsMissing r c (xs ++ ys)
 missing_both r c xs ys no_x no_y = filter-append (own r c) xs ys ∙ (λ i. no_x i ++ no_y i)
 
-missing_all : {A : Type 0} (r c : ℕ) (f : A → List Write) (xs : List A) → ((x : A) → IsMissing r c (f x)) → IsMissing r c (flat_map f xs)
+pub missing_all : {A : Type 0} (r c : ℕ) (f : A → List Write) (xs : List A) → ((x : A) → IsMissing r c (f x)) → IsMissing r c (flat_map f xs)
 missing_all r c f [] none = refl
 missing_all r c f (x ∷ xs) none = missing_both r c (f x) (flat_map f xs) (none x) (missing_all r c f xs none)
 
-missing_where : (r c : ℕ) (holds : Bool) (writes : List Write) → (holds ≡ true → IsMissing r c writes) → IsMissing r c (where_so holds writes)
+pub missing_where : (r c : ℕ) (holds : Bool) (writes : List Write) → (holds ≡ true → IsMissing r c writes) → IsMissing r c (where_so holds writes)
 missing_where r c true writes none = none refl
 missing_where r c false writes none = refl
 
-missing_at : (r c row col : ℕ) (o : Option ℕ) → own r c (position row col, 0) ≡ false → IsMissing r c (written_at row col o)
+pub missing_at : (r c row col : ℕ) (o : Option ℕ) → own r c (position row col, 0) ≡ false → IsMissing r c (written_at row col o)
 missing_at r c row col None apart = refl
 missing_at r c row col (Some x) apart = ap (λ b. cond b ((position row col, x) ∷ []) []) apart
 
-missing_last : (r c : ℕ) (writes : List Write) → IsMissing r c writes → last_at writes (position r c) ≡ None
+pub missing_last : (r c : ℕ) (writes : List Write) → IsMissing r c writes → last_at writes (position r c) ≡ None
 missing_last r c writes none = ap (λ mine. option_map (λ (e : Write). e.1) (last_or None mine)) none
 
 module _ (table : Spanned) (r c : ℕ) (nothing : table.shown (Place.Cross r c) ≡ None) where
@@ -223,13 +223,13 @@ module _ (table : Spanned) (r c : ℕ) (nothing : table.shown (Place.Cross r c) 
 
 -- ---- the table of a step is that of the configuration
 
-outside : (state : Site → Option (Written ℕ)) (shape : ℕ × ℕ) (place : Place) → has_spot shape place ≡ false → plain_value state shape place ≡ None
+pub outside : (state : Site → Option (Written ℕ)) (shape : ℕ × ℕ) (place : Place) → has_spot shape place ≡ false → plain_value state shape place ≡ None
 unfolding plain_value
 outside state shape place not_there = ap (λ b. cond b (first_sign state (plain_sites shape place)) None) not_there
 
 module _ (shape : ℕ × ℕ) (writes : List Write) (old new : Configuration) (changes : Changes (crossings_written writes) old new)
-    (none : (r c : ℕ) → plain_value (state_at old.characters) shape (Place.Cross r c) ≡ None → IsMissing r c writes) where
-  at_sites : grid.Changes (map crossing_written writes) (state_at old.characters) (state_at new.characters)
+    (none : (r c : ℕ) → has_spot shape (Place.Cross r c) ≡ false → IsMissing r c writes) where
+  pub at_sites : grid.Changes (map crossing_written writes) (state_at old.characters) (state_at new.characters)
   at_sites = subst (λ es. grid.Changes es (state_at old.characters) (state_at new.characters)) (characters_of-by_characters (map crossing_written writes)) changes.characters_changed
 
   same_settings : new.settings ≡ old.settings
@@ -254,7 +254,7 @@ module _ (shape : ℕ × ℕ) (writes : List Write) (old new : Configuration) (c
   same_shown (Place.Vertical r c k) false there = outside (state_at old.characters) shape (Place.Vertical r c k) there ∙ sym (outside (state_at new.characters) shape (Place.Vertical r c k) there)
   same_shown (Place.Cross r c) false there =
       let before = outside (state_at old.characters) shape (Place.Cross r c) there in
-      (λ i. option_or (missing_last r c writes (none r c before) i) (before i)) ∙ sym (outside (state_at new.characters) shape (Place.Cross r c) there)
+      (λ i. option_or (missing_last r c writes (none r c there) i) (before i)) ∙ sym (outside (state_at new.characters) shape (Place.Cross r c) there)
 
   pub table_after : after_writes (spanned shape old) writes ≡ spanned shape new
   table_after = λ i. record {
@@ -274,9 +274,9 @@ unfolding correction_events
 three_changes shape old between after by_columns by_rows =
     let first : Spanned = spanned shape old in
     let columns : List Write = columns_corrected first in
-    let second : after_writes first columns ≡ spanned shape between = table_after shape columns old between by_columns (λ r c nothing. none_by_columns first r c nothing) in
+    let second : after_writes first columns ≡ spanned shape between = table_after shape columns old between by_columns (λ r c there. none_by_columns first r c (outside (state_at old.characters) shape (Place.Cross r c) there)) in
     let rows : List Write = rows_corrected (spanned shape between) in
-    let third : after_writes (spanned shape between) rows ≡ spanned shape after = table_after shape rows between after by_rows (λ r c nothing. none_by_rows (spanned shape between) r c nothing) in
+    let third : after_writes (spanned shape between) rows ≡ spanned shape after = table_after shape rows between after by_rows (λ r c there. none_by_rows (spanned shape between) r c (outside (state_at between.characters) shape (Place.Cross r c) there)) in
     (λ i. crossings_written (columns ++ (rows_corrected (second i) ++ inner_corrected (after_writes (second i) (rows_corrected (second i))))))
     ∙ (λ i. crossings_written (columns ++ (rows ++ inner_corrected (third i))))
     ∙ written_both columns (rows ++ inner_corrected (spanned shape after))

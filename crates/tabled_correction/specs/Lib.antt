@@ -1,3 +1,4 @@
+pub mod Corners
 pub mod Correction
 pub mod Covered
 pub mod Picture

@@ -101,7 +101,7 @@ fn in_a_row(
 }
 
 /// Adds a write for each of some crossings.
-fn push_all(
+pub(crate) fn push_all(
     writes: &mut Vec<Write<char>>,
     crossings: &[(Position, char)],
 ) -> Result<(), OutOfMemory>

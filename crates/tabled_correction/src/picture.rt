@@ -39,7 +39,9 @@ impl<'a> Picture<'a> {
 
     /// What a configuration shows in a table of that shape, with nothing written since.
     pub(crate) fn new(cfg: &'a SpannedConfig, shape: (usize, usize)) -> Result<Self, OutOfMemory>
-        ensures { IfOk result (λ picture. pictured picture ≡ spanned shape cfg.now) }
+        ensures pictured { IfOk result (λ picture. pictured picture ≡ spanned shape cfg.now) }
+        ensures shape { IfOk result (λ picture. picture.shape ≡ shape) }
+        ensures config { IfOk result (λ picture. picture.cfg.now ≡ cfg.now) }
     {
         Ok(Picture {
             cfg,
@@ -88,7 +90,7 @@ impl<'a> Picture<'a> {
     }
 
     /// Whether a cell lies inside the table.
-    fn has_cell(&self, cell: Position) -> bool
+    pub(crate) fn has_cell(&self, cell: Position) -> bool
         ensures { result ≡ is_inside (pictured self.now).shape.0 (pictured self.now).shape.1 cell }
     {
         let (rows, cols) = self.shape;
@@ -104,7 +106,7 @@ impl<'a> Picture<'a> {
     }
 
     /// Whether a column span covers a cell, or both spans of a cell.
-    fn is_covered_in_row(&self, cell: Position) -> bool
+    pub(crate) fn is_covered_in_row(&self, cell: Position) -> bool
         requires { IsTrue (is_inside (pictured self.now).shape.0 (pictured self.now).shape.1 cell) }
         ensures { result ≡ (covered_by_column_span (pictured self.now).columns cell || covered_by_both_spans (pictured self.now).columns (pictured self.now).rows cell) }
     {
@@ -132,7 +134,7 @@ impl<'a> Picture<'a> {
     }
 
     /// Whether a row span covers a cell, or both spans of a cell.
-    fn is_covered_in_column(&self, cell: Position) -> bool
+    pub(crate) fn is_covered_in_column(&self, cell: Position) -> bool
         requires { IsTrue (is_inside (pictured self.now).shape.0 (pictured self.now).shape.1 cell) }
         ensures { result ≡ (covered_by_row_span (pictured self.now).rows cell || covered_by_both_spans (pictured self.now).columns (pictured self.now).rows cell) }
     {

@@ -14,7 +14,7 @@ use tabled_object::Position;
 pub(crate) type Writes = Vec<(Position, char)>;
 
 /// Adds a crossing, where there is a character for it.
-fn add(
+pub(crate) fn add(
     writes: &mut Writes,
     row: usize,
     col: usize,

@@ -16,10 +16,11 @@ pub use layers::{Layers, border_writes};
 pub use tabled_border::{ANSIBuf, ANSIFmt, ANSIStr, AnsiText, Border, Keep, OutOfMemory};
 pub use tabled_kept::{Meter, Numbered, Probes};
 pub use tabled_object::{
-    Cell, Column, Columns, Combine, Difference, DifferenceIterator, Dimension, Entity,
-    EntityIterator, ExactRecords, FirstColumn, FirstRow, FixedDimension, LastColumn,
-    LastColumnOffset, LastRow, LastRowOffset, Object, Offset, Position, Records, Row, Rows,
-    Segment, SegmentAll, Shape, Union,
+    Cell, CellIterator, Column, ColumnRange, ColumnStep, Columns, Combine, Difference, Dimension,
+    Entity, EntityIterator, ExactRecords, FirstColumn, FirstRow, FixedDimension, Frame,
+    Intersection, LastColumn, LastColumnOffset, LastRow, LastRowOffset, Object, Offset, Position,
+    RangeIterator, Records, Row, RowRange, RowStep, Rows, Segment, SegmentAll, SegmentRange, Shape,
+    Union,
 };
 pub use tabled_places::{
     Borders, Class, Direction, Event, HorizontalLine, LineOf, Part, Place, Rank, Region, Site,

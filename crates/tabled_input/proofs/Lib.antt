@@ -13,3 +13,5 @@ pub mod Even
 pub mod Kept
 pub mod SpacedTexts
 pub mod Bounded
+pub mod Joining
+pub mod Growing

@@ -2,12 +2,15 @@
 use Rattle.std.proofs.lemmas.Grind.{common_steps}
 use Rattle.std.proofs.lemmas.Bool.Decides.{nat_tests}
 use Rattle.std.proofs.Common.{arith}
-use Rattle.std.proofs.Common.{◌≡◌, ℕ, true, false, List, [], ◌∷◌, ◌++◌, encode_utf8, append_assoc, append-nil, refl, sym, ap, ◌∙◌}
+use Rattle.std.specs.Prelude.{slice_index_or}
+use Rattle.std.proofs.Math.Seq.{get_or-append_seam}
+use Rattle.std.proofs.lemmas.List.{length-append}
+use Rattle.std.proofs.Common.{◌≡◌, ℕ, ◌-◌, get_or, length, true, false, List, [], ◌∷◌, ◌++◌, encode_utf8, append_assoc, append-nil, refl, sym, ap, ◌∙◌}
 use Rattle.tabled_input.specs.declared.reader.At.{At}
 use Rattle.tabled_input.specs.declared.reader.At.TheVariants.{RowStart, CellStart, Bare, Quoted, AfterQuote}
 use Rattle.tabled_input.specs.declared.reader.Step.{Step}
 use Rattle.tabled_input.specs.declared.reader.Step.TheVariants as step
-use Rattle.tabled_input.specs.Quoted.{step_at, left_at, end_at, row_before, cell_before, letter_before, nothing_left}
+use Rattle.tabled_input.specs.Quoted.{step_at, left_at, end_at, is_quoted, last_cell, row_before, cell_before, letter_before, nothing_left}
 use Rattle.tabled_input.specs.Reading.{is_row_start, onto}
 
 abbrev pub Rows : Type 0
@@ -115,11 +118,11 @@ module _ (separator : ℕ) (at : At) (c : ℕ) (more : List ℕ) where
       ∙ ap (λ rest. old ++ rest) (sym (onto_cell row cell (left_at separator CellStart more)))
       ∙ ap (λ rest. old ++ onto row cell rest) (left_by_cell e)
 
-  pub letter_taken : (next : At) (old : Rows) (row : List (List ℕ)) (cell cell_after : List ℕ) → step.Letter next ≡ step_at separator at c
-      → cell_after ≡ cell ++ encode_utf8 c
-      → old ++ onto row cell_after (left_at separator next more) ≡ old ++ onto row cell (left_at separator at (c ∷ more))
-  letter_taken next old row cell cell_after e put =
-      ap (λ bytes. old ++ onto row bytes (left_at separator next more)) put
+  pub letter_taken : (next : At) (old new : Rows) (row row_after : List (List ℕ)) (cell cell_after : List ℕ) → step.Letter next ≡ step_at separator at c
+      → new ≡ old → row_after ≡ row → cell_after ≡ cell ++ encode_utf8 c
+      → new ++ onto row_after cell_after (left_at separator next more) ≡ old ++ onto row cell (left_at separator at (c ∷ more))
+  letter_taken next old new row row_after cell cell_after e rows same put =
+      (λ i. rows i ++ onto (same i) (put i) (left_at separator next more))
       ∙ ap (λ rest. old ++ rest) (sym (onto_letter row cell c (left_at separator next more)))
       ∙ ap (λ rest. old ++ onto row cell rest) (left_by_letter next e)
 
@@ -158,3 +161,26 @@ row_to_end separator at old new row cell e rows = grind (arith, nat_tests, commo
 pub first_taken : (separator same : ℕ) (at : At) (rows : Rows) (row : List (List ℕ)) (cell more : List ℕ) → same ≡ separator → at ≡ RowStart → rows ≡ [] → row ≡ [] → cell ≡ []
     → rows ++ onto row cell (left_at same at more) ≡ left_at separator RowStart more
 first_taken separator same at rows row cell more k a r s t = grind (arith, nat_tests, common_steps)
+
+-- ---- a text that ends within quotes
+
+within_quotes : (at : At) → is_quoted at ≡ true → nothing_left at ≡ row_before []
+within_quotes RowStart e = absurd cc
+within_quotes CellStart e = absurd cc
+within_quotes Bare e = absurd cc
+within_quotes Quoted e = refl
+within_quotes AfterQuote e = absurd cc
+
+-- its last row has the cell that goes on
+pub row_open : (separator : ℕ) (at : At) (old : Rows) (row : List (List ℕ)) (cell : List ℕ) → is_quoted at ≡ true
+    → old ++ onto row cell (left_at separator at []) ≡ old ++ (row ++ cell ∷ []) ∷ []
+unfolding left_at
+row_open separator at old row cell e = ap (λ rest. old ++ onto row cell rest) (within_quotes at e) ∙ ap (λ rest. old ++ rest) (onto_row row cell [])
+
+last_of : {X : Type 0} (xs : List X) (x d : X) → get_or (xs ++ x ∷ []) (length (xs ++ x ∷ []) - 1) d ≡ x
+last_of xs x d =
+    let last : length (xs ++ x ∷ []) - 1 ≡ length xs = omega (arith, length-append xs (x ∷ [])) in
+    ap (λ n. get_or (xs ++ x ∷ []) n d) last ∙ get_or-append_seam xs x [] d
+
+pub last_of_row_open : (old : Rows) (row : List (List ℕ)) (cell : List ℕ) → last_cell (old ++ (row ++ cell ∷ []) ∷ []) ≡ cell
+last_of_row_open old row cell = ap (λ cells. slice_index_or cells (length cells - 1) []) (last_of old (row ++ cell ∷ []) []) ∙ last_of row cell []

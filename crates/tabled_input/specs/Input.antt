@@ -26,6 +26,12 @@ rows_of_text Spaced text = spaced text
 abbrev pub rows_in : Cells → List ℕ → List (List (List ℕ))
 rows_in cells input = rows_of_text cells (without_mark input)
 
+-- the rows of an input that is held as a text, of which a mark is no part, or as the rows of CSV
+abbrev pub rows_held : Cells → List ℕ → List (List (List ℕ)) → List (List (List ℕ))
+rows_held (Separated separator) text quoted = rows_of_text (Separated separator) (without_mark text)
+rows_held (Quoted separator) text quoted = quoted
+rows_held Spaced text quoted = rows_of_text Spaced (without_mark text)
+
 -- the line of the byte after these, and its number in the line: both are counted from 1, and a line feed ends a line
 abbrev pub line_after : List ℕ → ℕ
 line_after bytes = line_feeds bytes + 1

@@ -1,4 +1,5 @@
 pub mod Input
+pub mod Joined
 pub mod Lines
 pub mod Quoted
 pub mod Reading

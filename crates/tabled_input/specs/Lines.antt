@@ -1,17 +1,17 @@
 -- Rows of cells between separators.
-use Rattle.std.specs.Prelude.{ℕ, ◌==◌, not, nat_lt, if◌then◌else◌, List, [], ◌∷◌, length, map, string_bytes}
+use Rattle.std.specs.Prelude.{ℕ, ◌==◌, not, nat_lt, if◌then◌else◌, List, [], ◌∷◌, length, map}
 use Rattle.std.specs.List.{count_by, filter, slice_split}
 use Rattle.std.specs.Str.Lines.{lines}
-use Rattle.std.specs.declared.string.String.{String}
 use Rattle.std.specs.declared.vec.Vec.{Vec}
+use denote.Ref.{Bor}
 
 -- how many line feeds there are
 abbrev pub line_feeds : List ℕ → ℕ
 line_feeds bytes = count_by (λ b. b == 10) bytes
 
--- the bytes of each cell of rows of texts
-abbrev pub cells_of : {Z W : Type 0} → List (Vec (String Z) W) → List (List (List ℕ))
-cells_of rows = map (λ row. map string_bytes row.items) rows
+-- the bytes of each cell of rows of texts, which are lent
+abbrev pub cells_of : {Z : Type 0} → List (Vec (Bor (List ℕ)) Z) → List (List (List ℕ))
+cells_of rows = map (λ row. map (λ cell. cell.now) row.items) rows
 
 -- the cells of a line: it is cut at the separator, a character of ASCII; another one separates nothing
 abbrev pub cut_at : ℕ → List ℕ → List (List ℕ)

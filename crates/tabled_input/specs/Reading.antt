@@ -1,9 +1,8 @@
 -- What a reader of CSV has read, and what the rest will give. Only private calls cite this.
-use Rattle.std.specs.Prelude.{ℕ, Bool, true, false, List, [], ◌∷◌, ◌++◌, map, string_bytes, if◌then◌else◌}
+use Rattle.std.specs.Prelude.{ℕ, Bool, true, false, List, [], ◌∷◌, ◌++◌, if◌then◌else◌}
 use Rattle.tabled_input.specs.declared.reader.At.{At}
 use Rattle.tabled_input.specs.declared.reader.At.TheVariants.{RowStart}
 use Rattle.tabled_input.specs.declared.reader.Reader.{Reader}
-use Rattle.tabled_input.specs.Lines.{cells_of}
 use Rattle.tabled_input.specs.Quoted.{left_at, without_returns}
 
 -- the cells of a row and a part of its next one, before what is left of it
@@ -14,7 +13,7 @@ onto row cell ((first ∷ more) ∷ rows) = (row ++ (cell ++ first) ∷ more) �
 
 -- the rows that were read, and those that further characters give
 abbrev pub rows_with : Reader → List ℕ → List (List (List ℕ))
-rows_with reader more = cells_of reader.rows.items ++ onto (map string_bytes reader.row.items) (string_bytes reader.cell) (left_at reader.separator reader.at more)
+rows_with reader more = reader.read.rows ++ onto reader.read.row reader.read.cell (left_at reader.separator reader.at more)
 
 -- the characters that further ones give, before which a carriage return may have been held back
 abbrev pub going_on : Bool → List ℕ → List ℕ

@@ -7,6 +7,7 @@
 mod blanks;
 mod blocks;
 mod error;
+mod joined;
 mod lines;
 mod place;
 mod quoted;
@@ -18,9 +19,10 @@ mod spacing;
 mod wide;
 
 pub use error::InputError;
+pub use joined::JoinedRows;
 pub use lines::separated;
 pub use quoted::{CsvError, csv};
 pub use read::{INPUT_LIMIT, read_input};
-pub use rows::{Cells, read_rows};
-pub use selection::{columns_of, head, number_rows};
+pub use rows::{Cells, Input};
+pub use selection::{columns_of, head, put_before, row_numbers};
 pub use spacing::spaced;

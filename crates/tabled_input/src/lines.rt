@@ -1,6 +1,6 @@
 //! Lines that are cut at a separator.
 
-ghost use Rattle.std.specs.Prelude.{◌≡◌, ◌<◌, ◌==◌, ◌∷◌, [], length, map, string_bytes, IfOk, IfSome, MatchOption};
+ghost use Rattle.std.specs.Prelude.{◌≡◌, ◌<◌, ◌==◌, ◌∷◌, [], length, map, IfOk, IfSome, MatchOption};
 ghost use Rattle.std.specs.List.{position, slice_split};
 ghost use Rattle.std.specs.Str.{IsUtf8};
 ghost use Rattle.tabled_input.specs.Lines.{cells_of, cut_at, line_feeds, separated as rows_of};
@@ -28,33 +28,43 @@ fn cut(line: &str, separator: u8) -> Option<(&str, &str)>
     }
 }
 
-/// The cells of a line, which is cut at a character of ASCII, copied. Room is made for the given number at first.
-fn pieces(alloc: Global, line: &str, separator: u8, room: usize) -> Result<Vec<String>, AllocError>
+/// The cells of a line, which is cut at a character of ASCII. Room is made for the given number at first.
+fn pieces<'a>(
+    alloc: Global,
+    line: &'a str,
+    separator: u8,
+    room: usize,
+) -> Result<Vec<&'a str>, AllocError>
     requires { separator < 128 }
-    ensures { IfOk result (λ cells. map string_bytes cells.items ≡ slice_split (λ b. b == separator) line.now) }
+    ensures { IfOk result (λ cells. map (λ cell. cell.now) cells.items ≡ slice_split (λ b. b == separator) line.now) }
 {
     let mut cells = Vec::with_capacity(alloc, room)?;
     let mut rest = line;
     while let Some((cell, more)) = cut(rest, separator) {
-        cells.push(String::from_str(alloc, cell)?)?;
+        cells.push(cell)?;
         rest = more;
     }
-    cells.push(String::from_str(alloc, rest)?)?;
+    cells.push(rest)?;
     Ok(cells)
 }
 
-/// The line as one cell, copied.
-fn whole(alloc: Global, line: &str) -> Result<Vec<String>, AllocError>
-    ensures { IfOk result (λ cells. map string_bytes cells.items ≡ line.now ∷ []) }
+/// The line as one cell.
+fn whole<'a>(alloc: Global, line: &'a str) -> Result<Vec<&'a str>, AllocError>
+    ensures { IfOk result (λ cells. map (λ cell. cell.now) cells.items ≡ line.now ∷ []) }
 {
     let mut cells = Vec::new(alloc);
-    cells.push(String::from_str(alloc, line)?)?;
+    cells.push(line)?;
     Ok(cells)
 }
 
-/// The cells of a line, copied.
-fn cells(alloc: Global, line: &str, separator: char, room: usize) -> Result<Vec<String>, AllocError>
-    ensures { IfOk result (λ cells. map string_bytes cells.items ≡ cut_at separator line.now) }
+/// The cells of a line.
+fn cells<'a>(
+    alloc: Global,
+    line: &'a str,
+    separator: char,
+    room: usize,
+) -> Result<Vec<&'a str>, AllocError>
+    ensures { IfOk result (λ cells. map (λ cell. cell.now) cells.items ≡ cut_at separator line.now) }
 {
     if (separator as u32) < 128 {
         pieces(alloc, line, separator as u8, room)
@@ -63,12 +73,17 @@ fn cells(alloc: Global, line: &str, separator: char, room: usize) -> Result<Vec<
     }
 }
 
-/// Returns the rows of a text: its lines but blank ones, each cut at a separator, a character of ASCII; another one separates nothing. A line
-/// ends at a line feed, or at a carriage return and a line feed; one at the end of the text begins no further line. Only memory can be refused.
-pub fn separated(alloc: Global, text: &str, separator: char) -> Result<Vec<Vec<String>>, AllocError>
+/// Returns the rows of a text: its lines but blank ones, each cut at a separator, a character of ASCII; another one separates nothing. The
+/// cells are lent. A line ends at a line feed, or at a carriage return and a line feed; one at the end of the text begins no further line. Only
+/// memory can be refused.
+pub fn separated<'a>(
+    alloc: Global,
+    text: &'a str,
+    separator: char,
+) -> Result<Vec<Vec<&'a str>>, AllocError>
     ensures { IfOk result (λ rows. cells_of rows.items ≡ rows_of separator text.now) }
 {
-    let mut rows: Vec<Vec<String>> = Vec::new(alloc);
+    let mut rows: Vec<Vec<&'a str>> = Vec::new(alloc);
     for line in text.lines() {
         if !line.is_empty() {
             let room = rows.first().map_or(0, |row| row.len());

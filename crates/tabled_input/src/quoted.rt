@@ -1,12 +1,13 @@
 //! The rows of a text in CSV.
 
-ghost use Rattle.std.specs.Prelude.{◌≡◌, ◌==◌, ◌⊎◌, ◌∷◌, [], ℕ, List, true, false, chars, length, IfOk, IfErr, OnOk};
-ghost use Rattle.tabled_input.specs.Lines.{cells_of};
-ghost use Rattle.tabled_input.specs.Quoted.{csv_rows, end_at, has_open_quote, last_cell, line_of_last, without_returns};
+ghost use Rattle.std.specs.Prelude.{◌≡◌, ◌==◌, ◌+◌, ◌-◌, ◌⊎◌, ◌∷◌, [], ℕ, List, true, false, chars, length, IfOk, IfErr, OnOk};
+ghost use Rattle.tabled_input.specs.Lines.{line_feeds};
+ghost use Rattle.tabled_input.specs.Quoted.{csv_rows, end_at, has_open_quote, line_of_last, without_returns};
 ghost use Rattle.tabled_input.specs.Reading.{going_on, rows_with};
 ghost use Rattle.tabled_input.specs.Written.{IsWritten};
 ghost use Rattle.tabled_input.specs.declared.quoted.CsvError.{CsvError as Refusal};
 
+use crate::joined::JoinedRows;
 use crate::lines::line_feeds;
 use crate::reader::Reader;
 use std::alloc::{AllocError, Global};
@@ -85,49 +86,35 @@ fn read(reader: &mut Reader, text: &str) -> Result<(), AllocError>
     Ok(())
 }
 
-/// The last cell of rows, the empty text where there is none.
-fn last_cell(rows: &[Vec<String>]) -> &str
-    ensures { result.now ≡ last_cell (cells_of rows.now) }
-{
-    let Some(row) = rows.last() else {
-        return "";
-    };
-    match row.last() {
-        Some(cell) => cell.as_str(),
-        None => "",
-    }
-}
-
-/// The line of a text on which the last of its cells begins, where that goes on to the end of the text.
-fn line_of_last(text: &str, rows: &[Vec<String>]) -> usize
-    ensures { result ≡ line_of_last text.now (cells_of rows.now) }
+/// The line of a text on which a cell begins that goes on to its end.
+fn line_of_last(text: &str, cell: &str) -> usize
+    ensures { result ≡ line_feeds text.now - line_feeds cell.now + 1 }
 {
     let above = line_feeds(text.as_bytes());
-    above.saturating_sub(line_feeds(last_cell(rows).as_bytes())) + 1
+    above.saturating_sub(line_feeds(cell.as_bytes())) + 1
 }
 
 /// Returns the rows of a text in CSV, whose cells stand between separators. A cell that begins with a quote ends with one, and may have
 /// separators and line feeds; two quotes in it are one. A line feed, or a carriage return and a line feed, ends a row. Refused where the last
 /// cell has no quote that ends it, and where memory is.
-pub fn csv(alloc: Global, text: &str, separator: char) -> Result<Vec<Vec<String>>, CsvError>
-    ensures rows { IfOk result (λ rows. cells_of rows.items ≡ csv_rows separator text.now) }
+pub fn csv(alloc: Global, text: &str, separator: char) -> Result<JoinedRows, CsvError>
+    ensures rows { IfOk result (λ read. read.rows ≡ csv_rows separator text.now) }
     ensures closed { OnOk result (has_open_quote separator text.now ≡ false) }
     ensures refused { IfErr result (λ e. (e ≡ Refusal.OutOfMemory) ⊎ ((has_open_quote separator text.now ≡ true) × (e ≡ Refusal.OpenQuote (line_of_last text.now (csv_rows separator text.now)) (length (csv_rows separator text.now))))) }
 
     // A text is written for the rows that are read, where the separator is no quote and no line feed; and no others are read of it.
-    ensures grammar { (separator == 34) ≡ false → (separator == 10) ≡ false → IfOk result (λ rows. IsWritten separator (cells_of rows.items) text.now) }
-    ensures written { (rows : List (List (List ℕ))) → IsWritten separator rows text.now → IfOk result (λ read. cells_of read.items ≡ rows) }
+    ensures grammar { (separator == 34) ≡ false → (separator == 10) ≡ false → IfOk result (λ read. IsWritten separator read.rows text.now) }
+    ensures written { (rows : List (List (List ℕ))) → IsWritten separator rows text.now → IfOk result (λ read. read.rows ≡ rows) }
     ensures memory_alone { (rows : List (List (List ℕ))) → IsWritten separator rows text.now → IfErr result (λ e. e ≡ Refusal.OutOfMemory) }
 {
     let mut reader = Reader::new(alloc, separator);
     read(&mut reader, text)?;
-    let is_open = reader.is_within_quotes();
-    reader.end()?;
-    if is_open {
+    if reader.is_within_quotes() {
         return Err(CsvError::OpenQuote {
-            line: line_of_last(text, &reader.rows),
-            row: reader.rows.len(),
+            line: line_of_last(text, reader.read.open_cell()),
+            row: reader.read.count() + 1,
         });
     }
-    Ok(reader.rows)
+    reader.end()?;
+    Ok(reader.read)
 }

@@ -1,12 +1,11 @@
 //! A reader of CSV, which takes one character after the other.
 
-ghost use Rattle.std.specs.Prelude.{◌≡◌, ℕ, List, [], ◌∷◌, ◌++◌, map, string_bytes, OnOk, IfOk};
-ghost use Rattle.tabled_input.specs.Lines.{cells_of};
+ghost use Rattle.std.specs.Prelude.{◌≡◌, ℕ, List, [], ◌∷◌, ◌++◌, OnOk};
 ghost use Rattle.tabled_input.specs.Quoted.{bare_step, end_at, is_quoted, step_at};
 ghost use Rattle.tabled_input.specs.Reading.{is_row_start, rows_with};
 
+use crate::joined::JoinedRows;
 use std::alloc::{AllocError, Global};
-use std::mem;
 
 /// Where a character stands.
 #[derive(Clone, Copy, Debug, PartialEq, Eq)]
@@ -70,10 +69,7 @@ fn step_at(separator: char, at: At, character: char) -> Step
 pub struct Reader {
     pub separator: char,
     pub at: At,
-    pub rows: Vec<Vec<String>>,
-    pub row: Vec<String>,
-    pub cell: String,
-    pub alloc: Global,
+    pub read: JoinedRows,
 }
 
 impl Reader {
@@ -81,44 +77,26 @@ impl Reader {
     pub fn new(alloc: Global, separator: char) -> Self
         ensures separator { result.separator ≡ separator }
         ensures at { result.at ≡ At.RowStart }
-        ensures rows { result.rows.items ≡ [] }
-        ensures row { result.row.items ≡ [] }
-        ensures cell { string_bytes result.cell ≡ [] }
+        ensures rows { result.read.rows ≡ [] }
+        ensures row { result.read.row ≡ [] }
+        ensures cell { result.read.cell ≡ [] }
     {
         Reader {
             separator,
             at: At::RowStart,
-            rows: Vec::new(alloc),
-            row: Vec::new(alloc),
-            cell: String::new(alloc),
-            alloc,
+            read: JoinedRows::new(alloc),
         }
     }
 
-    /// Ends the cell.
-    fn end_cell(&mut self) -> Result<(), AllocError>
-        ensures row { OnOk result (map string_bytes self.new.row.items ≡ map string_bytes self.old.row.items ++ string_bytes self.old.cell ∷ []) }
-        ensures cell { OnOk result (string_bytes self.new.cell ≡ []) }
-        ensures rows { OnOk result (self.new.rows ≡ self.old.rows) }
-        ensures separator { OnOk result (self.new.separator ≡ self.old.separator) }
-    {
-        let cell = mem::replace(&mut self.cell, String::new(self.alloc));
-        self.row.push(cell)?;
-        Ok(())
-    }
-
-    /// Ends the cell and its row. Room is made for as many cells in the next one.
+    /// Ends the cell and its row.
     fn end_row(&mut self) -> Result<(), AllocError>
-        ensures rows { OnOk result (cells_of self.new.rows.items ≡ cells_of self.old.rows.items ++ (map string_bytes self.old.row.items ++ string_bytes self.old.cell ∷ []) ∷ []) }
-        ensures row { OnOk result (map string_bytes self.new.row.items ≡ []) }
-        ensures cell { OnOk result (string_bytes self.new.cell ≡ []) }
+        ensures rows { OnOk result (self.new.read.rows ≡ self.old.read.rows ++ (self.old.read.row ++ self.old.read.cell ∷ []) ∷ []) }
+        ensures row { OnOk result (self.new.read.row ≡ []) }
+        ensures cell { OnOk result (self.new.read.cell ≡ []) }
         ensures separator { OnOk result (self.new.separator ≡ self.old.separator) }
     {
-        self.end_cell()?;
-        let next = Vec::with_capacity(self.alloc, self.row.len())?;
-        let row = mem::replace(&mut self.row, next);
-        self.rows.push(row)?;
-        Ok(())
+        self.read.end_cell()?;
+        self.read.end_row()
     }
 
     /// Takes a character.
@@ -132,11 +110,11 @@ impl Reader {
                 self.at = At::RowStart;
             }
             Step::Cell => {
-                self.end_cell()?;
+                self.read.end_cell()?;
                 self.at = At::CellStart;
             }
             Step::Letter(next) => {
-                self.cell.push(character)?;
+                self.read.push(character)?;
                 self.at = next;
             }
             Step::Nothing(next) => self.at = next,
@@ -166,7 +144,7 @@ impl Reader {
 
     /// Ends the row that has begun, if one has.
     pub fn end(&mut self) -> Result<(), AllocError>
-        ensures { OnOk result (cells_of self.new.rows.items ≡ rows_with self.old []) }
+        ensures { OnOk result (self.new.read.rows ≡ rows_with self.old []) }
     {
         if self.is_between_rows() {
             return Ok(());

@@ -1,46 +1,50 @@
 //! Which rows and columns of a table are shown, and the numbers of its rows.
 
-ghost use Rattle.std.specs.Prelude.{◌≡◌, ◌+◌, ◌<◌, ◌≤◌, ◌∷◌, [], map, length, slice_index_or, string_bytes, take, IfOk, OnOk};
+ghost use Rattle.std.specs.Prelude.{◌≡◌, ◌<◌, ◌≤◌, ◌∷◌, [], map, length, slice_index_or, string_bytes, take, IfOk, OnOk};
 ghost use Rattle.tabled_input.specs.Lines.{cells_of};
-ghost use Rattle.tabled_input.specs.Selection.{number_text, numbered, numbered_from, selected, selected_row};
+ghost use Rattle.tabled_input.specs.Selection.{first_number, number_text, row_numbers, selected, selected_row, with_before};
 
 use std::alloc::{AllocError, Global};
 
 /// Keeps the first rows, as many as are asked for.
-pub fn head(rows: &mut Vec<Vec<String>>, count: usize)
-    ensures { rows.new.items ≡ take count rows.old.items }
+pub fn head(rows: &mut Vec<Vec<&str>>, count: usize)
+    ensures { cells_of rows.new.items ≡ take count (cells_of rows.old.items) }
 {
     rows.truncate(count);
 }
 
 /// A cell of a row, the empty text where it has no such one.
-fn cell(row: &[String], col: usize) -> &str
-    ensures { result.now ≡ slice_index_or (map string_bytes row.now) col [] }
+fn cell<'a>(row: &[&'a str], col: usize) -> &'a str
+    ensures { result.now ≡ slice_index_or (map (λ cell. cell.now) row.now) col [] }
 {
     match row.get(col) {
-        Some(cell) => cell.as_str(),
+        Some(cell) => cell,
         None => "",
     }
 }
 
-/// The cells of these columns of a row, copied.
-fn selected_row(alloc: Global, row: &[String], columns: &[usize]) -> Result<Vec<String>, AllocError>
-    ensures { IfOk result (λ cells. map string_bytes cells.items ≡ selected_row columns.now (map string_bytes row.now)) }
+/// The cells of these columns of a row.
+fn selected_row<'a>(
+    alloc: Global,
+    row: &[&'a str],
+    columns: &[usize],
+) -> Result<Vec<&'a str>, AllocError>
+    ensures { IfOk result (λ cells. map (λ cell. cell.now) cells.items ≡ selected_row columns.now (map (λ cell. cell.now) row.now)) }
 {
     let mut cells = Vec::with_capacity(alloc, columns.len())?;
     for col in columns {
-        cells.push(String::from_str(alloc, cell(row, *col))?)?;
+        cells.push(cell(row, *col))?;
     }
     Ok(cells)
 }
 
-/// Returns the cells of these columns, copied, in that order. A column may be named twice. Where a row has no such cell, the empty text
-/// stands. Only memory can be refused.
-pub fn columns_of(
+/// Returns the cells of these columns, in that order. A column may be named twice. Where a row has no such cell, the empty text stands. Only
+/// memory can be refused.
+pub fn columns_of<'a>(
     alloc: Global,
-    rows: &[Vec<String>],
+    rows: &[Vec<&'a str>],
     columns: &[usize],
-) -> Result<Vec<Vec<String>>, AllocError>
+) -> Result<Vec<Vec<&'a str>>, AllocError>
     ensures { IfOk result (λ shown. cells_of shown.items ≡ selected columns.now (cells_of rows.now)) }
 {
     let mut shown = Vec::with_capacity(alloc, rows.len())?;
@@ -61,35 +65,44 @@ fn number_text(alloc: Global, row: usize) -> Result<String, AllocError>
     }
 }
 
-/// Puts its number before the cells of a row.
-fn number_row(alloc: Global, cells: &mut Vec<String>, row: usize) -> Result<(), AllocError>
-    ensures { OnOk result (map string_bytes cells.new.items ≡ number_text row ∷ map string_bytes cells.old.items) }
+/// The number of the first row.
+fn first_number(has_header: bool) -> usize
+    ensures same { result ≡ first_number has_header }
+    ensures most { result ≤ 1 }
 {
-    let text = number_text(alloc, row)?;
-    cells.insert(0, text)?;
+    if has_header { 0 } else { 1 }
+}
+
+/// Returns the texts of the numbers of so many rows: from 1 on, in decimal digits, and `#` for the first one where that is a header. Only
+/// memory can be refused.
+pub fn row_numbers(alloc: Global, rows: usize, has_header: bool) -> Result<Vec<String>, AllocError>
+    requires { rows < usize.MAX }
+    ensures { IfOk result (λ numbers. map string_bytes numbers.items ≡ row_numbers has_header rows) }
+{
+    let first = first_number(has_header);
+    let mut numbers = Vec::with_capacity(alloc, rows)?;
+    for row in 0..rows {
+        numbers.push(number_text(alloc, first + row)?)?;
+    }
+    Ok(numbers)
+}
+
+/// Puts a text before the cells of a row.
+fn put_first<'a>(row: &mut Vec<&'a str>, text: &'a str) -> Result<(), AllocError>
+    ensures { OnOk result (map (λ cell. cell.now) row.new.items ≡ text.now ∷ map (λ cell. cell.now) row.old.items) }
+{
+    row.insert(0, text)?;
     Ok(())
 }
 
-/// Puts their numbers before the cells of rows that are counted from the given one on.
-fn number_from(alloc: Global, rows: &mut [Vec<String>], first: usize) -> Result<(), AllocError>
-    requires { first ≤ 1 }
-    ensures { OnOk result (cells_of rows.new ≡ numbered_from first (cells_of rows.old)) }
+/// Puts a text before the cells of each row: the first text before those of the first row, and so on. Where memory is refused, some rows may
+/// have theirs.
+pub fn put_before<'a>(rows: &mut [Vec<&'a str>], texts: &'a [String]) -> Result<(), AllocError>
+    requires { length texts.now ≡ length rows.old }
+    ensures { OnOk result (cells_of rows.new ≡ with_before (map string_bytes texts.now) (cells_of rows.old)) }
 {
-    for (at, cells) in rows.iter_mut().enumerate() {
-        number_row(alloc, cells, first + at)?;
+    for (at, row) in rows.iter_mut().enumerate() {
+        put_first(row, texts[at].as_str())?;
     }
     Ok(())
-}
-
-/// Puts a cell before the others of each row: its number from 1 on, in decimal digits, and `#` for the first row where that is a header.
-/// Where memory is refused, some rows may have theirs.
-pub fn number_rows(
-    alloc: Global,
-    rows: &mut Vec<Vec<String>>,
-    has_header: bool,
-) -> Result<(), AllocError>
-    ensures { OnOk result (cells_of rows.new.items ≡ numbered has_header (cells_of rows.old.items)) }
-{
-    let first = if has_header { 0 } else { 1 };
-    number_from(alloc, rows, first)
 }

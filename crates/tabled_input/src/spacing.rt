@@ -1,6 +1,6 @@
 //! Lines that are cut at runs of blanks.
 
-ghost use Rattle.std.specs.Prelude.{◌≡◌, ◌-◌, ◌<◌, ◌≤◌, ◌∷◌, length, map, string_bytes, IfOk};
+ghost use Rattle.std.specs.Prelude.{◌≡◌, ◌-◌, ◌<◌, ◌≤◌, ◌∷◌, length, map, IfOk};
 ghost use Rattle.std.specs.List.{sum_by};
 ghost use Rattle.tabled_input.specs.Lines.{cells_of};
 ghost use Rattle.tabled_input.specs.Spaced.{AreEven, after_cell, cell_len, cells_of_line, first_cell, row_words, spaced, word_columns, word_count, word_lines, words};
@@ -69,33 +69,33 @@ fn cut_cell(line: &str, is_wide: bool, columns: usize) -> (&str, &str)
     }
 }
 
-/// So many cells of a line, copied.
+/// So many cells of a line.
 #[tactic(auto, unfolding(crate::specs::Spaced::cells_of_line))]
-fn cells(
+fn cells<'a>(
     alloc: Global,
-    line: &str,
+    line: &'a str,
     is_wide: bool,
     columns: usize,
-) -> Result<Vec<String>, AllocError>
-    ensures { IfOk result (λ cells. map string_bytes cells.items ≡ cells_of_line is_wide columns line.now) }
+) -> Result<Vec<&'a str>, AllocError>
+    ensures { IfOk result (λ cells. map (λ cell. cell.now) cells.items ≡ cells_of_line is_wide columns line.now) }
 {
     let mut cells = Vec::with_capacity(alloc, columns)?;
     let mut rest = line;
     for done in 0..columns {
         let (cell, more) = cut_cell(rest, is_wide, columns - done);
-        cells.push(String::from_str(alloc, cell)?)?;
+        cells.push(cell)?;
         rest = more;
     }
     Ok(cells)
 }
 
 /// The rows of a text whose lines have so many cells.
-fn rows_of(
+fn rows_of<'a>(
     alloc: Global,
-    text: &str,
+    text: &'a str,
     is_wide: bool,
     columns: usize,
-) -> Result<Vec<Vec<String>>, AllocError>
+) -> Result<Vec<Vec<&'a str>>, AllocError>
     ensures { IfOk result (λ rows. cells_of rows.items ≡ map (cells_of_line is_wide columns) (word_lines text.now)) }
 {
     let mut rows = Vec::new(alloc);
@@ -109,9 +109,9 @@ fn rows_of(
 
 /// Returns the rows of a text whose cells stand between runs of blanks, which are spaces and tabulators, as programs print them that line
 /// their columns up. Where each line is cut at the same places at its runs of two blanks and more, these are the cells; else each cell is a
-/// word, but the last one of a line has the rest of it. All rows have as many cells, and the cells of each have the words of its line. All
-/// together are no more than the text has bytes. Only memory can be refused.
-pub fn spaced(alloc: Global, text: &str) -> Result<Vec<Vec<String>>, AllocError>
+/// word, but the last one of a line has the rest of it. All rows have as many cells, which are lent, and the cells of each have the words of its
+/// line. All together are no more than the text has bytes. Only memory can be refused.
+pub fn spaced<'a>(alloc: Global, text: &'a str) -> Result<Vec<Vec<&'a str>>, AllocError>
     ensures rows { IfOk result (λ rows. cells_of rows.items ≡ spaced text.now) }
     ensures even { IfOk result (λ rows. AreEven (cells_of rows.items)) }
     ensures words { IfOk result (λ rows. row_words (cells_of rows.items) ≡ map words (word_lines text.now)) }

@@ -26,6 +26,7 @@ use Rattle.tabled_settings.specs.declared.sides.Sides.{Sides as Four}
 use Rattle.tabled_formatting.specs.Formatting.{Justifying, alignment_set, strategy_set, trim_set, justification_set, padding_given, padding_set}
 use Rattle.tabled_formatting.specs.Margins.{margin_colored, margin_given, shadow_set}
 use Rattle.tabled_correction.specs.Correction.{correction_events}
+use Rattle.tabled_correction.specs.Corners.{joined_corner_events}
 use Rattle.tabled_correction.specs.Span.{span_events}
 use Rattle.tabled_options.specs.LineChar.{line_char_events}
 use Rattle.tabled_options.specs.LineText.{text_events}
@@ -154,13 +155,15 @@ first_targets kinds texts =
 abbrev pub other_targets : OtherTargets → ℕ × ℕ → List Step
 other_targets others shape = other_borders others.borders shape ++ other_settings others.settings shape
 
--- all of them, and at last a correction for the spans that are set
+-- all of them, and at last a correction for the spans that are set, and the corners joined
 abbrev pub options : Kinds → OtherTargets → Table → List Step
 options kinds others texts =
     let shape : ℕ × ℕ = (length texts, column_count texts) in
     first_targets kinds texts
     ++ (other_targets others shape
-    ++ (λ before. correction_events shape before.spanned) ∷ [])
+    ++ (λ before. correction_events shape before.spanned)
+    ∷ (λ before. joined_corner_events shape before.spanned)
+    ∷ [])
 
 -- options that were applied in a row, each making its events
 abbrev pub InTurn : List Step → Colored → Colored → Type 0

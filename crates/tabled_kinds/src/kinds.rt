@@ -15,7 +15,7 @@ use tabled::grid::records::Shape;
 use tabled::settings::formatting::{AlignmentStrategy, TrimStrategy};
 use tabled::settings::object::{Cell, Column, FirstRow, Row};
 use tabled::settings::style::{BorderColor, EmptyBorder, LineChar, LineText, On, ReadyStyle};
-use tabled::settings::themes::{BorderCorrection, Colorization, ExactColorization};
+use tabled::settings::themes::{BorderCorrection, Colorization, ExactColorization, JoinedCorners};
 use tabled::settings::{
     Alignment, Border, CellColor, Color, Highlight, JoinedColor, Justification, Margin,
     MarginColor, Padding, PaddingColor, Shadow, Span, Style, TableOption, Theme,
@@ -172,9 +172,9 @@ impl<T: Drop> Later<T> {
     }
 }
 
-/// Applies them all, at each of their targets, and then a correction for the spans that are set. By its contract the configuration
-/// changes by the events of each, in this order, and by nothing else, whatever stood there before; so `headline` says of every place
-/// what it shows then, and as the texts stay, `TextTable::to_text` prints that around the same cells.
+/// Applies them all, at each of their targets, then a correction for the spans that are set, and joins the corners. By its contract the
+/// configuration changes by the events of each, in this order, and by nothing else, whatever stood there before; so `headline` says of
+/// every place what it shows then, and as the texts stay, `TextTable::to_text` prints that around the same cells.
 pub fn every_kind(
     table: &mut TextTable,
     kinds: Kinds,
@@ -187,7 +187,8 @@ pub fn every_kind(
     let others = Later { options: others };
     every_first_target(table, kinds)?;
     every_other_target(table, others.now())?;
-    table.apply(BorderCorrection::span())
+    table.apply(BorderCorrection::span())?;
+    table.apply(JoinedCorners::new())
 }
 
 /// Applies an option of each kind.

@@ -1,21 +1,22 @@
 -- Nothing in the cells of a table that was cleaned steers a terminal.
-use Rattle.std.proofs.Common.{◌≡◌, true, [], List, ℕ, map, chars, get_or, String, string_bytes, Vec, refl, sym, ◌∙◌}
+use Rattle.std.proofs.Common.{◌≡◌, true, [], List, ℕ, map, chars, get_or, Vec, refl, sym, ◌∙◌}
 use Rattle.std.specs.List.{list_all}
 use Rattle.std.specs.Str.{IsUtf8}
 use Rattle.std.proofs.lemmas.List.Folds.{list_all-map}
 use Rattle.std.proofs.lemmas.List.Sums.{AllPass-from_list_all}
 use Rattle.std.proofs.lemmas.Str.{IsUtf8-nil, scalars-chars}
+use Rattle.tabled_cells.specs.TextsBy.{texts_by}
 use Rattle.tabled_clean.specs.Steering.{IsCleanText, cleaned, is_clean, without_steering}
 use Rattle.tabled_clean.proofs.SteeringLemmas.{clean_stays, cleaned_is_clean, empty_is_clean, scalars_kept}
-use Rattle.tabled_width.specs.Texts.{Table, texts}
+use Rattle.tabled_width.specs.Texts.{Table}
 use Rattle.tabled_measure.specs.Cells.{AreUtf8}
 use Rattle.tabled_measure.specs.Changed.{CellsAreClean, cells_changed, each_text}
 use Rattle.tabled_measure.specs.Sizes.{cell}
 use Rattle.tabled_measure.proofs.ChangedLemmas.{cells_stay, in_cells}
 
 -- whether nothing steers in rows, text by text
-pub all_clean : {Z W : Type 0} (rows : List (Vec (String Z) W)) → list_all (list_all is_clean) (texts rows) ≡ list_all (λ row. list_all (λ text. is_clean (string_bytes text)) row.items) rows
-all_clean rows = list_all-map (list_all is_clean) (λ row. map string_bytes row.items) rows ∙ (λ i. list_all (λ row. list_all-map is_clean string_bytes row.items i) rows)
+pub all_clean : {T Z : Type 0} (bytes : T → List ℕ) (rows : List (Vec T Z)) → list_all (list_all is_clean) (texts_by bytes rows) ≡ list_all (λ row. list_all (λ text. is_clean (bytes text)) row.items) rows
+all_clean bytes rows = list_all-map (list_all is_clean) (λ row. map bytes row.items) rows ∙ (λ i. list_all (λ row. list_all-map is_clean bytes row.items i) rows)
 
 -- cells in which nothing steers stay as they are
 pub clean_cells : (table : Table) → AreUtf8 table → list_all (list_all is_clean) table ≡ true → table ≡ cells_changed (each_text cleaned) table

@@ -2,6 +2,7 @@
 
 ghost use Rattle.std.specs.Prelude.{◌≡◌, ℕ, List, map, string_bytes, IfOk};
 ghost use Rattle.std.specs.List.{list_all};
+ghost use Rattle.tabled_cells.specs.TextsBy.{texts_by};
 ghost use Rattle.tabled_clean.specs.Steering.{cleaned, is_clean};
 ghost use Rattle.tabled_width.specs.Texts.{texts};
 ghost use Rattle.tabled_width.specs.Tabs.{tabs_expanded};
@@ -9,6 +10,7 @@ ghost use Rattle.tabled_measure.specs.Changed.{row_changed, cells_changed, each_
 
 use std::alloc::Global;
 use std::collections::BTreeSet;
+use std::convert::AsStr;
 use tabled_border::OutOfMemory;
 use tabled_clean::{cleaned, is_clean};
 use tabled_object::{Entity, Position, is_covered};
@@ -117,28 +119,28 @@ impl Change for LimitedColumns<'_, '_> {
 }
 
 /// Whether nothing in the cells of a row steers a terminal.
-fn is_clean_row(cells: &[String]) -> bool
-    ensures { result ≡ list_all (λ text. is_clean (string_bytes text)) cells.now }
+fn is_clean_row<T: AsStr>(cells: &[T]) -> bool
+    ensures { result ≡ list_all (λ text. is_clean (T.text text)) cells.now }
 {
     cells.iter().all(|text| is_clean(text.as_str()))
 }
 
 /// Whether nothing in the cells of rows steers a terminal.
-pub fn are_clean(rows: &[Vec<String>]) -> bool
-    ensures { result ≡ list_all (λ row. list_all (λ text. is_clean (string_bytes text)) row.items) rows.now }
+pub fn are_clean<T: AsStr>(rows: &[Vec<T>]) -> bool
+    ensures { result ≡ list_all (λ row. list_all (λ text. is_clean (T.text text)) row.items) rows.now }
 {
     rows.iter().all(|cells| is_clean_row(cells))
 }
 
 /// The cells of a row, each changed.
 #[tactic(auto, unfolding(crate::specs::Changed::row_changed))]
-fn changed_row<C: Change>(
+fn changed_row<T: AsStr, C: Change>(
     alloc: Global,
     change: &C,
     row: usize,
-    cells: &[String],
+    cells: &[T],
 ) -> Result<Vec<String>, OutOfMemory>
-    ensures { IfOk result (λ found. map string_bytes found.items ≡ row_changed (C.change change.now row) (map string_bytes cells.now)) }
+    ensures { IfOk result (λ found. map string_bytes found.items ≡ row_changed (C.change change.now row) (map T.text cells.now)) }
 {
     let mut found = Vec::with_capacity(alloc, cells.len())?;
     for (col, text) in cells.iter().enumerate() {
@@ -149,12 +151,12 @@ fn changed_row<C: Change>(
 
 /// The cells of rows, each changed.
 #[tactic(auto, unfolding(crate::specs::Changed::cells_changed))]
-pub fn changed_rows<C: Change>(
+pub fn changed_rows<T: AsStr, C: Change>(
     alloc: Global,
     change: &C,
-    rows: &[Vec<String>],
+    rows: &[Vec<T>],
 ) -> Result<Vec<Vec<String>>, OutOfMemory>
-    ensures { IfOk result (λ found. texts found.items ≡ cells_changed (C.change change.now) (texts rows.now)) }
+    ensures { IfOk result (λ found. texts found.items ≡ cells_changed (C.change change.now) (texts_by T.text rows.now)) }
 {
     let mut found = Vec::with_capacity(alloc, rows.len())?;
     for (row, cells) in rows.iter().enumerate() {

@@ -2,7 +2,7 @@
 
 ghost use Rattle.std.specs.Prelude.{◌≡◌, map};
 ghost use Rattle.std.specs.List.{list_all, list_any};
-ghost use Rattle.tabled_numbers.specs.Columns.{cell, column_count, is_number_or_empty, is_numeric};
+ghost use Rattle.tabled_numbers.specs.Columns.{cell, column_count, is_number_or_none, is_numeric, says_none};
 ghost use Rattle.tabled_numbers.specs.Numbers as numbers;
 
 use crate::numbers::is_number;
@@ -28,18 +28,29 @@ pub fn text_of<'a, T: AsStr>(cells: &'a [T], col: usize) -> &'a str
     }
 }
 
-/// Whether a text is a number, or empty.
-fn is_number_or_empty(text: &str) -> bool
-    ensures { result ≡ is_number_or_empty text.now }
+/// Whether a text is a word that says that there is no number, in large or small letters.
+#[tactic(auto, unfolding(crate::specs::Columns::says_none))]
+fn says_none(text: &str) -> bool
+    ensures { result ≡ says_none text.now }
 {
-    text.is_empty() || is_number(text)
+    text.eq_ignore_ascii_case("-")
+        || text.eq_ignore_ascii_case("n/a")
+        || text.eq_ignore_ascii_case("null")
+        || text.eq_ignore_ascii_case("nan")
 }
 
-/// Whether each cell of a column is a number or empty.
-fn has_numbers_alone<T: AsStr>(rows: &[Vec<T>], col: usize) -> bool
-    ensures { result ≡ list_all (λ row. is_number_or_empty (cell row col)) (map (λ row. map T.text row.items) rows.now) }
+/// Whether a text is a number, or says that there is none: it is empty, or such a word.
+fn is_number_or_none(text: &str) -> bool
+    ensures { result ≡ is_number_or_none text.now }
 {
-    rows.iter().all(|row| is_number_or_empty(text_of(row, col)))
+    text.is_empty() || is_number(text) || says_none(text)
+}
+
+/// Whether each cell of a column is a number, or says that there is none.
+fn has_numbers_alone<T: AsStr>(rows: &[Vec<T>], col: usize) -> bool
+    ensures { result ≡ list_all (λ row. is_number_or_none (cell row col)) (map (λ row. map T.text row.items) rows.now) }
+{
+    rows.iter().all(|row| is_number_or_none(text_of(row, col)))
 }
 
 /// Whether a cell of a column is a number.
@@ -49,7 +60,8 @@ fn has_number<T: AsStr>(rows: &[Vec<T>], col: usize) -> bool
     rows.iter().any(|row| is_number(text_of(row, col)))
 }
 
-/// Returns whether each cell of a column is a number or empty, and one of them a number. Past the end of a row its cell is empty.
+/// Returns whether each cell of a column is a number, or says that there is none, and one of them is a number. A cell says so that is empty, as
+/// it is past the end of a row, or that is "-", "n/a", "null" or "nan", in large or small letters.
 #[tactic(auto, unfolding(crate::specs::Columns::is_numeric))]
 pub fn is_numeric<T: AsStr>(rows: &[Vec<T>], col: usize) -> bool
     ensures { result ≡ is_numeric (map (λ row. map T.text row.items) rows.now) col }

@@ -1,5 +1,7 @@
 pub mod Rectangles
 pub mod Listings
 pub mod Coverings
-pub mod Differences
+pub mod Choosing
 pub mod Sets
+pub mod Stepping
+pub mod RangeSets

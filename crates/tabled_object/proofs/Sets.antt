@@ -9,7 +9,7 @@ use Rattle.tabled_object.specs.declared.entity.Entity.{Entity}
 use Rattle.tabled_object.specs.declared.entity.Entity.TheVariants.{Global, Column, Row, Cell}
 use Rattle.tabled_object.specs.declared.position.Position.{Position}
 use Rattle.tabled_object.specs.Entities.{position, rectangle, below, cells_of, covers, is_inside}
-use Rattle.tabled_object.specs.Listing.{covered, listed, alone, difference}
+use Rattle.tabled_object.specs.Listing.{covered, listed, all_cells, alone, chosen, difference, frame, intersection, is_outermost}
 
 -- whether two positions are the same
 abbrev pub is_here : Position → Position → Bool
@@ -121,14 +121,29 @@ passing_one passes true among true same = ap (λ b. (b && true) || among) (same 
 passing_one passes true among false same = ap (λ b. (b && true) || false) (same refl)
 passing_one passes false among cell_passes same = ap (λ b. b || (cell_passes && among)) (and-false passes)
 
-pub any_passing : (test : Position → Bool) (cell : Position) (cells : List Position) → list_any (is_here cell) (filter test cells) ≡ (test cell && list_any (is_here cell) cells)
-any_passing test cell [] = sym (and-false (test cell))
-any_passing test cell (other ∷ cells) =
-    any_of_one (is_here cell) (test other) other (filter test cells)
-    ∙ ap (λ b. (test other && is_here cell other) || b) (any_passing test cell cells)
-    ∙ passing_one (test other) (is_here cell other) (list_any (is_here cell) cells) (test cell) (λ h. ap test (same_here cell other h))
+-- of what passes a test, something is x, that alone is there, if that passes and is among them all
+pub any_passing : {A : Type 0} (here test : A → Bool) (x : A) → ((y : A) → here y ≡ true → y ≡ x) → (ys : List A) → list_any here (filter test ys) ≡ (test x && list_any here ys)
+any_passing here test x alone_there [] = sym (and-false (test x))
+any_passing here test x alone_there (y ∷ ys) =
+    any_of_one here (test y) y (filter test ys)
+    ∙ ap (λ b. (test y && here y) || b) (any_passing here test x alone_there ys)
+    ∙ passing_one (test y) (here y) (list_any here ys) (test x) (λ h. ap test (alone_there y h))
 
-inside_without : (a b c : Bool) → (a && ((b && not c) && a)) ≡ ((a && b) && not (a && c))
+inside_last : (a b : Bool) → (b && a) ≡ (a && b)
+inside_last true true = refl
+inside_last true false = refl
+inside_last false true = refl
+inside_last false false = refl
+
+-- cells of a table that pass a test cover those inside that pass it, and none outside
+pub covered_chosen : (test : Position → Bool) (rows cols : ℕ) (cell : Position) → covered (chosen test (cells_of Global rows cols)) cell ≡ (is_inside rows cols cell && test cell)
+covered_chosen test rows cols cell =
+    let all = cells_of Global rows cols in
+    let everywhere = any_here cell (below rows) (below cols) ∙ (λ i. any_below cell.row rows i && any_below cell.col cols i) in
+    any_map (λ entity. covers entity cell) alone (filter test all) ∙ any_passing (is_here cell) test cell (same_here cell) all
+    ∙ ap (λ b. test cell && b) everywhere ∙ inside_last (is_inside rows cols cell) (test cell)
+
+inside_without : (a b c : Bool) → (a && (a && (b && not c))) ≡ ((a && b) && not (a && c))
 inside_without true true true = refl
 inside_without true true false = refl
 inside_without true false c = refl
@@ -136,9 +151,17 @@ inside_without false b c = refl
 
 pub listed_without : (these those : List Entity) (rows cols : ℕ) (cell : Position) → listed (difference these those rows cols) rows cols cell ≡ (listed these rows cols cell && not (listed those rows cols cell))
 listed_without these those rows cols cell =
-    let test : Position → Bool = λ other. covered these other && not (covered those other) in
-    let all = cells_of Global rows cols in
-    let everywhere = any_here cell (below rows) (below cols) ∙ (λ i. any_below cell.row rows i && any_below cell.col cols i) in
-    ap (λ b. is_inside rows cols cell && b)
-    (any_map (λ entity. covers entity cell) alone (filter test all) ∙ any_passing test cell all ∙ ap (λ b. test cell && b) everywhere)
+    ap (λ b. is_inside rows cols cell && b) (covered_chosen (λ other. covered these other && not (covered those other)) rows cols cell)
     ∙ inside_without (is_inside rows cols cell) (covered these cell) (covered those cell)
+
+-- the frame of a table is its outermost cells
+pub covered_by_frame : (rows cols : ℕ) (cell : Position) → covered (frame rows cols) cell ≡ (is_inside rows cols cell && is_outermost rows cols cell)
+covered_by_frame rows cols cell = covered_chosen (is_outermost rows cols) rows cols cell
+
+-- what two listings have in common is what both cover inside the table
+pub covered_by_both : (these those : List Entity) (rows cols : ℕ) (cell : Position) → covered (intersection these those rows cols) cell ≡ (is_inside rows cols cell && (covered these cell && covered those cell))
+covered_by_both these those rows cols cell = covered_chosen (λ other. covered these other && covered those other) rows cols cell
+
+-- all cells without those of a listing are those inside the table that it does not cover
+pub covered_by_inverse : (these : List Entity) (rows cols : ℕ) (cell : Position) → covered (difference all_cells these rows cols) cell ≡ (is_inside rows cols cell && not (covered these cell))
+covered_by_inverse these rows cols cell = covered_chosen (λ other. covered all_cells other && not (covered these other)) rows cols cell

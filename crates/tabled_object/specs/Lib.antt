@@ -1,2 +1,4 @@
 pub mod Entities
 pub mod Listing
+pub mod Chosen
+pub mod Ranges

@@ -1,5 +1,5 @@
 -- What an object lists.
-use Rattle.std.specs.Prelude.{ℕ, ◌-◌, ◌&&◌, Bool, not, nat_lt, if◌then◌else◌, List, [], ◌∷◌, map, Option}
+use Rattle.std.specs.Prelude.{ℕ, ◌-◌, ◌==◌, ◌&&◌, ◌||◌, Bool, not, nat_lt, if◌then◌else◌, List, [], ◌∷◌, map, Option}
 use Rattle.std.specs.Iterator.{Count, IsFinite, AlwaysYields}
 use Rattle.std.specs.List.{filter, list_any}
 use Rattle.tabled_object.specs.declared.entity.Entity.{Entity}
@@ -67,10 +67,22 @@ column_before_last offset cols = if nat_lt offset cols then (Column (cols - 1 - 
 abbrev pub alone : Position → Entity
 alone cell = Cell cell.row cell.col
 
--- of these cells, in their order, those that the one listing covers and the other does not
-abbrev pub only : List Entity → List Entity → List Position → List Entity
-only kept left_out cells = map alone (filter (λ cell. covered kept cell && not (covered left_out cell)) cells)
+-- of these cells, in their order, those that pass a test
+abbrev pub chosen : (Position → Bool) → List Position → List Entity
+chosen test cells = map alone (filter test cells)
+
+-- whether a cell stands in the first or the last row, or in the first or the last column
+abbrev pub is_outermost : ℕ → ℕ → Position → Bool
+is_outermost rows cols cell = (cell.row == 0 || cell.row == rows - 1) || (cell.col == 0 || cell.col == cols - 1)
+
+-- the outermost cells of the table, in row order
+abbrev pub frame : ℕ → ℕ → List Entity
+frame rows cols = chosen (is_outermost rows cols) (cells_of Global rows cols)
+
+-- the cells of the table, in row order, that both listings cover
+abbrev pub intersection : List Entity → List Entity → ℕ → ℕ → List Entity
+intersection these those rows cols = chosen (λ cell. covered these cell && covered those cell) (cells_of Global rows cols)
 
 -- the cells of the table, in row order, that the one listing covers and the other does not
 abbrev pub difference : List Entity → List Entity → ℕ → ℕ → List Entity
-difference kept left_out rows cols = only kept left_out (cells_of Global rows cols)
+difference kept left_out rows cols = chosen (λ cell. covered kept cell && not (covered left_out cell)) (cells_of Global rows cols)

@@ -70,7 +70,7 @@ impl Model for EntityIterator {
 
 impl EntityIterator {
     /// The positions of the given numbers of rows and columns, each from a first one on.
-    fn rectangle(rows: (usize, usize), cols: (usize, usize)) -> Self
+    pub(crate) fn rectangle(rows: (usize, usize), cols: (usize, usize)) -> Self
         requires rows_fit { rows.0 + rows.1 ≤ 2 ^ 64 }
         requires cols_fit { cols.0 + cols.1 ≤ 2 ^ 64 }
         ensures { result ≡ rectangle (range_with_len rows.0 rows.1) (range_with_len cols.0 cols.1) }

@@ -14,9 +14,10 @@ mod records;
 pub use dimension::{Dimension, FixedDimension};
 pub use entity::{Entity, EntityIterator};
 pub use object::{
-    Cell, Column, Columns, Combine, Difference, DifferenceIterator, FirstColumn, FirstRow,
-    LastColumn, LastColumnOffset, LastRow, LastRowOffset, Object, Row, Rows, Segment, SegmentAll,
-    Union, is_covered, listed_entities,
+    Cell, CellIterator, Column, ColumnRange, ColumnStep, Columns, Combine, Difference, FirstColumn,
+    FirstRow, Frame, Intersection, LastColumn, LastColumnOffset, LastRow, LastRowOffset, Object,
+    RangeIterator, Row, RowRange, RowStep, Rows, Segment, SegmentAll, SegmentRange, Union,
+    is_covered, listed_entities,
 };
 pub use offset::Offset;
 pub use position::Position;

@@ -5,23 +5,33 @@ ghost use Rattle.tabled_object.specs.declared.entity.Entity.{Entity};
 ghost use Rattle.tabled_object.specs.Listing.{Lists};
 
 mod cell;
+mod chosen;
 mod columns;
 mod combined;
 mod covering;
 mod difference;
 mod entities;
+mod frame;
+mod intersection;
 mod lent;
+mod ranges;
 mod rows;
 mod segment;
 
 use crate::{Entity, ExactRecords, Records};
 pub use cell::Cell;
-pub use columns::{Column, Columns, FirstColumn, LastColumn, LastColumnOffset};
+pub use chosen::CellIterator;
+pub use columns::{
+    Column, ColumnRange, ColumnStep, Columns, FirstColumn, LastColumn, LastColumnOffset,
+};
 pub use combined::{Combine, Union};
 pub use covering::{is_covered, listed_entities};
-pub use difference::{Difference, DifferenceIterator};
-pub use rows::{FirstRow, LastRow, LastRowOffset, Row, Rows};
-pub use segment::{Segment, SegmentAll};
+pub use difference::Difference;
+pub use frame::Frame;
+pub use intersection::Intersection;
+pub use ranges::RangeIterator;
+pub use rows::{FirstRow, LastRow, LastRowOffset, Row, RowRange, RowStep, Rows};
+pub use segment::{Segment, SegmentAll, SegmentRange};
 use std::alloc::Global;
 use tabled_border::OutOfMemory;
 

@@ -4,7 +4,7 @@ use Rattle.std.specs.List.{All, list_all, slice_split}
 use Rattle.std.specs.Str.{IsUtf8}
 use Rattle.std.proofs.Math.Utf8.{scalar, scalars}
 use Rattle.std.proofs.lemmas.Bool.{and_from, and_parts, not_from_false}
-use Rattle.std.proofs.lemmas.Str.{IsUtf8-nil, scalars-chars}
+use Rattle.std.proofs.lemmas.Str.{IsUtf8-nil, chars-encodes, scalars-chars}
 use Rattle.tabled_clean.specs.Line.{cleaned_line, in_line}
 use Rattle.tabled_clean.specs.Steering.{IsCleanText, cleaned, is_printable, steers, without_steering}
 use Rattle.tabled_clean.proofs.LineLemmas.{characters_of_line}
@@ -21,6 +21,7 @@ use Rattle.tabled_request.specs.declared.given.GivenError.TheVariants as given
 use Rattle.tabled_request.specs.declared.options.OptionName.{OptionName}
 use Rattle.tabled_request.specs.declared.options.OptionName.TheVariants as option
 use Rattle.tabled_viewing.specs.Said.{from_one, noted, out_of_memory, quoted, said, said_of_cells, said_of_color, said_of_column, said_of_given, said_of_input, said_of_rows, said_of_width, said_of_words, values, word}
+use Rattle.tabled_viewing.specs.Told.{is_unseen, seen, told}
 use Rattle.tabled_viewing.specs.declared.error.ViewError.{ViewError}
 use Rattle.tabled_viewing.specs.declared.error.ViewError.TheVariants.{Given, Words, OpenFailed, Input, UnequalRows, TooManyCells, UnknownColumn, OutOfMemory, WriteFailed}
 use Rattle.tabled_viewing.specs.declared.notes.Notes.{Notes}
@@ -65,8 +66,40 @@ line_clean text read = (
   ap (list_all (λ c. not (steers c))) (characters_of_line text read) ∙ all_pictured (without_steering (chars text)) (none_steers (chars text)),
 )
 
+-- with what is not seen shown
+
+unseen_shown : (b : Bool) (c : ℕ) → not (steers c) ≡ true → not (steers (if b then 0xFFFD else c)) ≡ true
+unfolding steers
+unseen_shown true c e = refl
+unseen_shown false c e = e
+
+all_shown : (cs : List ℕ) → list_all (λ c. not (steers c)) cs ≡ true → list_all (λ c. not (steers c)) (map seen cs) ≡ true
+all_shown [] e = refl
+all_shown (c ∷ cs) e =
+    let parts = and_parts (not (steers c)) (list_all (λ c. not (steers c)) cs) e in
+    and_from (not (steers (seen c))) (list_all (λ c. not (steers c)) (map seen cs)) (unseen_shown (is_unseen c) c parts.0) (all_shown cs parts.1)
+
+shown_scalars : (cs : List ℕ) → scalars cs ≡ true → scalars (map seen cs) ≡ true
+shown_scalars [] e = refl
+shown_scalars (c ∷ cs) e =
+    let parts = and_parts (scalar c) (scalars cs) e in
+    and_from (scalar (seen c)) (scalars (map seen cs)) (by (is_unseen c) parts.0) (shown_scalars cs parts.1)
+  where
+    by : (b : Bool) → scalar c ≡ true → scalar (if b then 0xFFFD else c) ≡ true
+    by true is = refl
+    by false is = is
+
+told_clean : (text : List ℕ) → IsUtf8 text → IsCleanText (told text)
+unfolding told
+told_clean text read =
+    let line = line_clean text read in
+    let shown = shown_scalars (chars (cleaned_line text)) (scalars-chars (cleaned_line text) line.0) in (
+      (map seen (chars (cleaned_line text)), (shown, refl)),
+      ap (list_all (λ c. not (steers c))) (chars-encodes (map seen (chars (cleaned_line text))) shown) ∙ all_shown (chars (cleaned_line text)) line.1,
+    )
+
 quoted_clean : (text : List ℕ) → IsUtf8 text → IsCleanText (quoted text)
-quoted_clean text read = clean_both (34 ∷ []) (cleaned_line text ++ 34 ∷ []) (printed (34 ∷ []) refl) (clean_both (cleaned_line text) (34 ∷ []) (line_clean text read) (printed (34 ∷ []) refl))
+quoted_clean text read = clean_both (34 ∷ []) (told text ++ 34 ∷ []) (printed (34 ∷ []) refl) (clean_both (told text) (34 ∷ []) (told_clean text read) (printed (34 ∷ []) refl))
 
 -- a printable text before another one
 before : (text after : List ℕ) → list_all is_printable text ≡ true → IsCleanText after → IsCleanText (text ++ after)
@@ -145,12 +178,12 @@ values_printable option.Styles = refl
 
 unknown_clean : (text : List ℕ) (near : Option OptionName) → IsUtf8 text
     → IsCleanText (elim near [
-      | None ↦ cleaned_line text ++ codes " is no option (--help shows them)"
-      | Some option ↦ cleaned_line text ++ (codes " is no option (perhaps " ++ (name_of option ++ codes "; --help shows them)"))
+      | None ↦ told text ++ codes " is no option (--help shows them)"
+      | Some option ↦ told text ++ (codes " is no option (perhaps " ++ (name_of option ++ codes "; --help shows them)"))
     ])
-unknown_clean text None read = clean_both (cleaned_line text) (codes " is no option (--help shows them)") (line_clean text read) (printed (codes " is no option (--help shows them)") refl)
+unknown_clean text None read = clean_both (told text) (codes " is no option (--help shows them)") (told_clean text read) (printed (codes " is no option (--help shows them)") refl)
 unknown_clean text (Some option) read =
-    clean_both (cleaned_line text) (codes " is no option (perhaps " ++ (name_of option ++ codes "; --help shows them)")) (line_clean text read)
+    clean_both (told text) (codes " is no option (perhaps " ++ (name_of option ++ codes "; --help shows them)")) (told_clean text read)
     (before (codes " is no option (perhaps ") (name_of option ++ codes "; --help shows them)") refl
     (before (name_of option) (codes "; --help shows them)") (name_printable option) (printed (codes "; --help shows them)") refl)))
 

@@ -1,6 +1,6 @@
 -- Nothing steers in a page whose texts were cleaned.
 use Rattle.std.proofs.Common.{◌≡◌, ◌==◌, ℕ, ◌+◌, ◌-◌, zero, suc, Bool, true, false, ◌&&◌, nat_lt, if◌then◌else◌, IfSome, option_map, Option, Some, None, List, [], ◌∷◌, ◌++◌, length, replicate, get_or, chars, codes, decimal, slice_index_or, ◌⊎◌, inl, inr, refl, sym, ap, subst, ◌∙◌, arith, lit<}
-use Rattle.std.specs.List.{All, slice_get}
+use Rattle.std.specs.List.{All, range_with_len, slice_get}
 use Rattle.std.specs.Str.{IsUtf8}
 use Rattle.std.proofs.Math.Utf8.{low_scalar, scalar, scalars}
 use Rattle.std.proofs.lemmas.Bool.{and_from, and_parts}
@@ -27,7 +27,7 @@ use Rattle.tabled_painting.specs.Painted.{Painted, plain}
 use Rattle.tabled_painting.specs.PaintedTable.{colored_text}
 use Rattle.tabled_measure.proofs.ChangedLemmas.{in_cells}
 use Rattle.tabled_input.specs.Input.{rows_in}
-use Rattle.tabled_input.specs.Selection.{number_text, numbered, numbered_from, selected_row}
+use Rattle.tabled_input.specs.Selection.{first_number, number_text, numbered, row_numbers, selected_row, with_before}
 use Rattle.tabled_object.specs.declared.entity.Entity.{Entity}
 use Rattle.tabled_request.specs.Columns.{columns_named}
 use Rattle.tabled_request.specs.Sides.{headings_of, sides_of}
@@ -208,17 +208,20 @@ number_texts row = by (row == 0)
     by true = (printed (codes "#") refl).0
     by false = (decimal_clean row).0
 
-counted_texts : (row : ℕ) (rows : Table) → AreTexts rows → AreTexts (numbered_from row rows)
-counted_texts row [] all = All-nil (All IsUtf8)
-counted_texts row (cells ∷ rows) all =
-    All-cons (All IsUtf8) (number_text row ∷ cells) (numbered_from (row + 1) rows) (All-cons IsUtf8 (number_text row) cells (number_texts row) (All-head (All IsUtf8) cells rows all))
-    (counted_texts (row + 1) rows (All-tail (All IsUtf8) cells rows all))
+put_texts : (texts : List (List ℕ)) (rows : Table) → All IsUtf8 texts → AreTexts rows → AreTexts (with_before texts rows)
+put_texts [] rows are all = all
+put_texts (text ∷ texts) [] are all = All-nil (All IsUtf8)
+put_texts (text ∷ texts) (cells ∷ rows) are all =
+    All-cons (All IsUtf8) (text ∷ cells) (with_before texts rows) (All-cons IsUtf8 text cells (All-head IsUtf8 text texts are) (All-head (All IsUtf8) cells rows all))
+    (put_texts texts rows (All-tail IsUtf8 text texts are) (All-tail (All IsUtf8) cells rows all))
 
 numbers_texts : (request : Request) (rows : Table) → AreTexts rows → AreTexts (with_numbers request rows)
 numbers_texts request rows all = by request.has_row_numbers
   where
     by : (b : Bool) → AreTexts (if b then numbered request.has_header rows else rows)
-    by true = counted_texts (if request.has_header then 0 else 1) rows all
+    by true =
+        let counted = range_with_len (first_number request.has_header) (length rows) in
+        put_texts (row_numbers request.has_header (length rows)) rows (All-map IsUtf8 number_text counted (λ k d inside. number_texts (get_or counted k d))) all
     by false = all
 
 shown_texts : (request : Request) (words : List (List ℕ)) (rows : Table) → AreTexts rows → AreTexts (rows_shown request words rows)

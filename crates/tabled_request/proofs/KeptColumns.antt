@@ -1,5 +1,5 @@
 -- Columns of which some are kept.
-use Rattle.std.proofs.Common.{◌≡◌, ℕ, zero, suc, ◌+◌, ◌-◌, ◌<◌, ◌≤◌, min, Bool, true, false, not, ◌||◌, ◌==◌, cond, ⊎_elim, List, [], ◌∷◌, ◌++◌, append_assoc, append-nil, nat_le, length, map, string_bytes, Some, None, refl, sym, ap, ◌∙◌, arith}
+use Rattle.std.proofs.Common.{◌≡◌, ℕ, zero, suc, ◌+◌, ◌-◌, ◌<◌, ◌≤◌, min, Bool, true, false, not, ◌||◌, ◌==◌, cond, ⊎_elim, List, [], ◌∷◌, ◌++◌, append_assoc, append-nil, nat_le, length, map, Some, None, refl, sym, ap, ◌∙◌, arith}
 use Rattle.std.specs.List.{filter, list_any, range_with_len}
 use Rattle.std.proofs.lemmas.Bool.{cases_lt, ne_eqb}
 use Rattle.std.proofs.lemmas.Bool.Decides.{nat_tests}
@@ -8,7 +8,6 @@ use Rattle.std.proofs.lemmas.List.FromFn.{length-range_with_len}
 use Rattle.std.proofs.lemmas.List.{length-map}
 use Rattle.std.proofs.lemmas.Option.{slice_get_past}
 use Rattle.std.specs.Str.{bytes_eq}
-use Rattle.std.specs.declared.string.String.{String}
 use Rattle.tabled_request.specs.Columns.{has_heading, is_in}
 
 range_in_two : (a n m : ℕ) → range_with_len a (n + m) ≡ range_with_len a n ++ range_with_len (a + n) m
@@ -135,12 +134,12 @@ pub past_headings : (headings : List (List ℕ)) (text : List ℕ) (k : ℕ) →
 past_headings headings text k past = ap (λ found. elim found [ None ↦ false | Some heading ↦ bytes_eq heading text ]) (slice_get_past headings k past)
 
 -- where no column is a heading's but the first, so many, no other one is kept
-module _ {Z : Type 0} (headings : List (String Z)) (text : List ℕ) (to count : ℕ) (e : to ≡ min (length headings) count) where
-  past_all : (k : ℕ) → to ≤ k → k < count → has_heading (map string_bytes headings) text k ≡ false
-  past_all k past below = past_headings (map string_bytes headings) text k (omega (arith, e, past, below, length-map headings string_bytes))
+module _ {T : Type 0} (bytes : T → List ℕ) (headings : List T) (text : List ℕ) (to count : ℕ) (e : to ≡ min (length headings) count) where
+  past_all : (k : ℕ) → to ≤ k → k < count → has_heading (map bytes headings) text k ≡ false
+  past_all k past below = past_headings (map bytes headings) text k (omega (arith, e, past, below, length-map headings bytes))
 
-  pub headed_kept : filter (has_heading (map string_bytes headings) text) (range_with_len 0 count) ≡ filter (has_heading (map string_bytes headings) text) (range_with_len 0 to)
-  headed_kept = kept_below (has_heading (map string_bytes headings) text) to count (omega (arith, e)) past_all
+  pub headed_kept : filter (has_heading (map bytes headings) text) (range_with_len 0 count) ≡ filter (has_heading (map bytes headings) text) (range_with_len 0 to)
+  headed_kept = kept_below (has_heading (map bytes headings) text) to count (omega (arith, e)) past_all
 
-  pub any_headed : list_any (has_heading (map string_bytes headings) text) (range_with_len 0 to) ≡ list_any (has_heading (map string_bytes headings) text) (range_with_len 0 count)
-  any_headed = any_below (has_heading (map string_bytes headings) text) to count (omega (arith, e)) past_all
+  pub any_headed : list_any (has_heading (map bytes headings) text) (range_with_len 0 to) ≡ list_any (has_heading (map bytes headings) text) (range_with_len 0 count)
+  any_headed = any_below (has_heading (map bytes headings) text) to count (omega (arith, e)) past_all

@@ -1,11 +1,12 @@
 //! Columns that words name.
 
-ghost use Rattle.std.specs.Prelude.{◌≡◌, ℕ, ◌-◌, ◌<◌, ◌≤◌, false, ◌||◌, ◌==◌, ◌++◌, IfOk, OnOk, get_or, replicate, length, filter, map, option_map, string_bytes};
+ghost use Rattle.std.specs.Prelude.{◌≡◌, ℕ, ◌-◌, ◌<◌, ◌≤◌, false, ◌||◌, ◌==◌, ◌++◌, IfOk, OnOk, get_or, replicate, length, filter, map, option_map};
 ghost use Rattle.std.specs.List.{list_any, before_first, after_first, range_with_len};
 ghost use Rattle.tabled_request.specs.Columns.{are_columns, both, columns_named, columns_of_part, has_heading, is_dash, is_in, is_one, is_part, is_range, numbers_of, unknown_part};
 
 use crate::numerals::number_of;
 use std::alloc::{AllocError, Global};
+use std::convert::AsStr;
 
 /// Two numbers, where both are.
 fn both(first: Option<usize>, last: Option<usize>) -> Option<(usize, usize)>
@@ -99,8 +100,8 @@ fn put_range(
 }
 
 /// Whether the heading of a column is a text.
-fn has_heading(headings: &[String], text: &str, col: usize) -> bool
-    ensures { result ≡ has_heading (map string_bytes headings.now) text.now col }
+fn has_heading<T: AsStr>(headings: &[T], text: &str, col: usize) -> bool
+    ensures { result ≡ has_heading (map T.text headings.now) text.now col }
 {
     match headings.get(col) {
         Some(heading) => heading.as_str() == text,
@@ -109,13 +110,13 @@ fn has_heading(headings: &[String], text: &str, col: usize) -> bool
 }
 
 /// Puts the columns whose heading is a text, of so many, after others.
-fn put_headed(
+fn put_headed<T: AsStr>(
     columns: &mut Vec<usize>,
-    headings: &[String],
+    headings: &[T],
     text: &str,
     count: usize,
 ) -> Result<(), AllocError>
-    ensures { OnOk result (columns.new.items ≡ columns.old.items ++ filter (has_heading (map string_bytes headings.now) text.now) (range_with_len 0 count)) }
+    ensures { OnOk result (columns.new.items ≡ columns.old.items ++ filter (has_heading (map T.text headings.now) text.now) (range_with_len 0 count)) }
 {
     for col in 0..headings.len().min(count) {
         if has_heading(headings, text, col) {
@@ -127,13 +128,13 @@ fn put_headed(
 
 /// Puts the columns that a part of a word names, of so many, after others.
 #[tactic(auto, unfolding(crate::specs::Columns::columns_of_part))]
-fn put_columns(
+fn put_columns<T: AsStr>(
     columns: &mut Vec<usize>,
     part: &str,
-    headings: &[String],
+    headings: &[T],
     count: usize,
 ) -> Result<(), AllocError>
-    ensures { OnOk result (columns.new.items ≡ columns.old.items ++ columns_of_part (map string_bytes headings.now) count part.now) }
+    ensures { OnOk result (columns.new.items ≡ columns.old.items ++ columns_of_part (map T.text headings.now) count part.now) }
 {
     match numbers_of(part) {
         Some(numbers) => put_range(columns, numbers, count),
@@ -143,13 +144,13 @@ fn put_columns(
 
 /// Returns the columns that a word names, part after part between commas, of so many that there are, counted from 0: of a number or a range
 /// those that it names, and of any other part those whose heading it is, byte by byte.
-pub fn columns_named(
+pub fn columns_named<T: AsStr>(
     alloc: Global,
     word: &str,
-    headings: &[String],
+    headings: &[T],
     count: usize,
 ) -> Result<Vec<usize>, AllocError>
-    ensures { IfOk result (λ columns. columns.items ≡ columns_named word.now (map string_bytes headings.now) count) }
+    ensures { IfOk result (λ columns. columns.items ≡ columns_named word.now (map T.text headings.now) count) }
 {
     let mut columns = Vec::new(alloc);
     for part in word.split(',') {
@@ -159,16 +160,16 @@ pub fn columns_named(
 }
 
 /// Whether one of so many columns has a text for its heading.
-fn is_heading(headings: &[String], text: &str, count: usize) -> bool
-    ensures { result ≡ list_any (has_heading (map string_bytes headings.now) text.now) (range_with_len 0 count) }
+fn is_heading<T: AsStr>(headings: &[T], text: &str, count: usize) -> bool
+    ensures { result ≡ list_any (has_heading (map T.text headings.now) text.now) (range_with_len 0 count) }
 {
     (0..headings.len().min(count)).any(|col| has_heading(headings, text, col))
 }
 
 /// Whether a part of a word names no column, of so many.
 #[tactic(auto, unfolding(crate::specs::Columns::columns_of_part))]
-fn is_unknown(part: &str, headings: &[String], count: usize) -> bool
-    ensures { result ≡ (length (columns_of_part (map string_bytes headings.now) count part.now) == 0) }
+fn is_unknown<T: AsStr>(part: &str, headings: &[T], count: usize) -> bool
+    ensures { result ≡ (length (columns_of_part (map T.text headings.now) count part.now) == 0) }
 {
     match numbers_of(part) {
         Some(numbers) => {
@@ -181,8 +182,8 @@ fn is_unknown(part: &str, headings: &[String], count: usize) -> bool
 
 /// Returns the number, counted from 0, of the first part of a word, between commas, that names no column, of so many that there are: by its
 /// number, as one of a range, or by its heading.
-pub fn unknown_part(word: &str, headings: &[String], count: usize) -> Option<usize>
-    ensures { result ≡ unknown_part word.now (map string_bytes headings.now) count }
+pub fn unknown_part<T: AsStr>(word: &str, headings: &[T], count: usize) -> Option<usize>
+    ensures { result ≡ unknown_part word.now (map T.text headings.now) count }
 {
     word.split(',')
         .position(|part| is_unknown(part, headings, count))
@@ -216,13 +217,13 @@ pub(crate) fn no_flags(alloc: Global, count: usize) -> Result<Vec<bool>, AllocEr
 }
 
 /// For each column, of so many, whether a word names it.
-pub(crate) fn flags_of(
+pub(crate) fn flags_of<T: AsStr>(
     alloc: Global,
     word: &str,
-    headings: &[String],
+    headings: &[T],
     count: usize,
 ) -> Result<Vec<bool>, AllocError>
-    ensures { IfOk result (λ flags. flags.items ≡ map (is_one (columns_named word.now (map string_bytes headings.now) count)) (range_with_len 0 count)) }
+    ensures { IfOk result (λ flags. flags.items ≡ map (is_one (columns_named word.now (map T.text headings.now) count)) (range_with_len 0 count)) }
 {
     let mut flags = no_flags(alloc, count)?;
     let mut columns = Vec::new(alloc);

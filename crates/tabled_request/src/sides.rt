@@ -2,7 +2,7 @@
 
 ghost use Rattle.std.specs.Prelude.{◌≡◌, ◌&&◌, if◌then◌else◌, map, string_bytes, unwrap_or, Some, None, IfOk};
 ghost use Rattle.std.specs.List.{range_with_len};
-ghost use Rattle.tabled_numbers.specs.Columns.{cells_of, column_count, is_numeric};
+ghost use Rattle.tabled_numbers.specs.Columns.{column_count, is_numeric};
 ghost use Rattle.tabled_request.specs.Sides.{below_header, headings_of, is_named, sides_of};
 ghost use Rattle.tabled_request.specs.declared.sides.ColumnSide.TheVariants.{Left, Center, Right};
 
@@ -10,6 +10,7 @@ use crate::columns::{flags_of, no_flags};
 use crate::request::Request;
 use crate::words::word_at;
 use std::alloc::{AllocError, Global};
+use std::convert::AsStr;
 use tabled_numbers::{column_count, is_numeric};
 
 /// Where the cells of a column stand.
@@ -24,8 +25,8 @@ pub enum ColumnSide {
 }
 
 /// Returns the headings of the columns: the texts of the first row, where that is a header.
-pub fn headings_of(request: Request, rows: &[Vec<String>]) -> &[String]
-    ensures { map string_bytes result.now ≡ headings_of request (cells_of rows.now) }
+pub fn headings_of<T: AsStr>(request: Request, rows: &[Vec<T>]) -> &[T]
+    ensures { map T.text result.now ≡ headings_of request (map (λ row. map T.text row.items) rows.now) }
 {
     match rows {
         [row, ..] if request.has_header => row,
@@ -34,8 +35,8 @@ pub fn headings_of(request: Request, rows: &[Vec<String>]) -> &[String]
 }
 
 /// The rows below the header.
-fn below_header(rows: &[Vec<String>], has_header: bool) -> &[Vec<String>]
-    ensures { cells_of result.now ≡ below_header has_header (cells_of rows.now) }
+fn below_header<T: AsStr>(rows: &[Vec<T>], has_header: bool) -> &[Vec<T>]
+    ensures { map (λ row. map T.text row.items) result.now ≡ below_header has_header (map (λ row. map T.text row.items) rows.now) }
 {
     match rows {
         [_, more @ ..] if has_header => more,
@@ -44,14 +45,14 @@ fn below_header(rows: &[Vec<String>], has_header: bool) -> &[Vec<String>]
 }
 
 /// For each column, whether the word of that number names it.
-fn named(
+fn named<T: AsStr>(
     alloc: Global,
     request: Request,
     words: &[String],
-    rows: &[Vec<String>],
+    rows: &[Vec<T>],
     number: Option<usize>,
 ) -> Result<Vec<bool>, AllocError>
-    ensures { IfOk result (λ flags. flags.items ≡ map (is_named request (map string_bytes words.now) (cells_of rows.now) number) (range_with_len 0 (column_count (cells_of rows.now)))) }
+    ensures { IfOk result (λ flags. flags.items ≡ map (is_named request (map string_bytes words.now) (map (λ row. map T.text row.items) rows.now) number) (range_with_len 0 (column_count (map (λ row. map T.text row.items) rows.now)))) }
 {
     let count = column_count(rows);
     match word_at(words, number) {
@@ -61,8 +62,8 @@ fn named(
 }
 
 /// Whether the cells of a column stand at the right by themselves, since they are numbers.
-fn is_found(request: Request, rows: &[Vec<String>], col: usize) -> bool
-    ensures { result ≡ (request.finds_numbers && is_numeric (below_header request.has_header (cells_of rows.now)) col) }
+fn is_found<T: AsStr>(request: Request, rows: &[Vec<T>], col: usize) -> bool
+    ensures { result ≡ (request.finds_numbers && is_numeric (below_header request.has_header (map (λ row. map T.text row.items) rows.now)) col) }
 {
     request.finds_numbers && is_numeric(below_header(rows, request.has_header), col)
 }
@@ -80,13 +81,13 @@ fn side_said(is_left: bool, is_center: bool, is_right: bool) -> Option<ColumnSid
 }
 
 /// The side of a column: one that is said, or else the right side where it is one of numbers.
-fn side_of(
+fn side_of<T: AsStr>(
     request: Request,
-    rows: &[Vec<String>],
+    rows: &[Vec<T>],
     col: usize,
     said: Option<ColumnSide>,
 ) -> ColumnSide
-    ensures { result ≡ unwrap_or said (if request.finds_numbers && is_numeric (below_header request.has_header (cells_of rows.now)) col then Right else Left) }
+    ensures { result ≡ unwrap_or said (if request.finds_numbers && is_numeric (below_header request.has_header (map (λ row. map T.text row.items) rows.now)) col then Right else Left) }
 {
     match said {
         Some(side) => side,
@@ -95,16 +96,16 @@ fn side_of(
     }
 }
 
-/// Returns where the cells of each column stand: as the words say, and else at the right where those below the header are numbers or empty,
-/// one at least a number. Of the words that name a column, by its number or its heading, that for the left side comes first, then that for
-/// the middle.
-pub fn all_sides(
+/// Returns where the cells of each column stand: as the words say, and else at the right where those below the header are numbers, or say that
+/// there is none, one at least a number. Of the words that name a column, by its number or its heading, that for the left side comes first,
+/// then that for the middle.
+pub fn all_sides<T: AsStr>(
     alloc: Global,
     request: Request,
     words: &[String],
-    rows: &[Vec<String>],
+    rows: &[Vec<T>],
 ) -> Result<Vec<ColumnSide>, AllocError>
-    ensures { IfOk result (λ sides. sides.items ≡ sides_of request (map string_bytes words.now) (cells_of rows.now)) }
+    ensures { IfOk result (λ sides. sides.items ≡ sides_of request (map string_bytes words.now) (map (λ row. map T.text row.items) rows.now)) }
 {
     let left = named(alloc, request, words, rows, request.left)?;
     let center = named(alloc, request, words, rows, request.center)?;

@@ -5,6 +5,7 @@ ghost use Rattle.tabled_configuration.specs.Colored.{Shows};
 ghost use Rattle.tabled_cells.specs.TextsBy.{texts_by};
 ghost use Rattle.tabled_text.specs.Refusal.{unequal as refusal_of};
 
+mod changed;
 mod columns;
 mod copies;
 mod printing;

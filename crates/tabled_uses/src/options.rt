@@ -5,7 +5,7 @@ use crate::recipes::people;
 use std::alloc::Global;
 use tabled::grid::config::{Indent, Sides};
 use tabled::settings::formatting::{AlignmentStrategy, TrimStrategy};
-use tabled::settings::object::{Columns, Combine, Entity, Rows};
+use tabled::settings::object::{Columns, Combine, Entity, Frame, Rows, Segment};
 use tabled::settings::style::{
     Border, HorizontalLine, LineChar, LineText, Offset, ReadyStyle, VerticalLine,
 };
@@ -66,6 +66,33 @@ pub fn cells_of_one_object_and_not_of_another(alloc: Global) -> Result<String, T
     let mut table = people(alloc)?;
     table.with(Style::ascii())?;
     table.modify(Columns::first().not(Rows::first()), Border::new().left('>'))?;
+    Ok(table.to_text()?)
+}
+
+/// Rows and cells of ranges: every other row, and the cells below the first row and right of the first column.
+pub fn rows_and_cells_of_ranges(alloc: Global) -> Result<String, TableError> {
+    let mut table = people(alloc)?;
+    table.with(Style::ascii())?;
+    table.modify(Rows::new(..).step_by(2), Border::new().left('>'))?;
+    table.modify(Segment::new(1.., 1..), Alignment::right())?;
+    Ok(table.to_text()?)
+}
+
+/// An outline around the cells within the outermost ones.
+pub fn outline_within_the_frame(alloc: Global) -> Result<String, TableError> {
+    let rows: &[&[&str]] = &[
+        &["a", "b", "c", "d"],
+        &["e", "f", "g", "h"],
+        &["i", "j", "k", "l"],
+        &["m", "n", "o", "p"],
+    ];
+    let mut table = TextTable::new(alloc, rows)?;
+    table.with(Style::ascii())?;
+    table.with(Highlight::outline(Frame.inverse(), '*'))?;
+    table.modify(
+        Rows::new(1..).intersect(Columns::last() - 1),
+        Border::new().right('>'),
+    )?;
     Ok(table.to_text()?)
 }
 

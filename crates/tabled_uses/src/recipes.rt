@@ -4,7 +4,7 @@
 use std::alloc::Global;
 use tabled::settings::object::{Cell, Columns, Combine, Rows, Segment};
 use tabled::settings::style::{Border, BorderColor, HorizontalLine, LineText};
-use tabled::settings::themes::BorderCorrection;
+use tabled::settings::themes::{BorderCorrection, JoinedCorners};
 use tabled::settings::{Alignment, Color, Highlight, Margin, Shadow, Span, Style};
 use tabled::texts::Overflow;
 use tabled::{TableError, TextTable};
@@ -143,6 +143,16 @@ pub fn cell_over_two_rows(alloc: Global) -> Result<String, TableError> {
     table.with(Style::modern())?;
     table.modify(Cell::new(1, 0), Span::row(2))?;
     table.with(BorderCorrection::span())?;
+    Ok(table.to_text()?)
+}
+
+/// Light lines that end at the double ones of a frame, and a heavy line that crosses them.
+pub fn joined_corners(alloc: Global) -> Result<String, TableError> {
+    let mut table = people(alloc)?;
+    let frame = Border::full('═', '═', '║', '║', '╔', '╗', '╚', '╝');
+    table.with(Style::modern().frame(frame))?;
+    table.modify(Cell::new(1, 1), Border::new().left('┃'))?;
+    table.with(JoinedCorners::new())?;
     Ok(table.to_text()?)
 }
 

@@ -8,3 +8,4 @@ pub mod Faults
 pub mod Pages
 pub mod Views
 pub mod Tellings
+pub mod Mapped

@@ -1,7 +1,7 @@
 -- What is written for an input, and when nothing is: by what is known of the bytes that a reader gives.
-use Rattle.std.proofs.Common.{◌≡◌, ◌≢◌, ℕ, List, Option, Some, None, Result, Ok, Err, IsErrAnd, IfErr, IfSome, ◌⊎◌, inl, inr, sym, ap, subst, ◌∙◌}
+use Rattle.std.proofs.Common.{◌≡◌, ◌≢◌, ℕ, List, Option, Some, None, Result, Ok, Err, IsErrAnd, IfErr, IfSome, ◌⊎◌, inl, inr, refl, sym, ap, subst, ◌∙◌}
 use Rattle.std.specs.Prelude.{IsErrOf}
-use Rattle.std.specs.Io.KnownBytes.{Appends}
+use Rattle.std.specs.Io.KnownBytes.{Appends, Keeps}
 use Rattle.tabled_width.specs.Texts.{Table}
 use Rattle.tabled_style.specs.declared.ready_style.ReadyStyle.{ReadyStyle}
 use Rattle.tabled_input.specs.Input as bytes
@@ -95,3 +95,14 @@ as_passed P e (Err y) is known = subst P (sym is) known
 pub not_passed : {T : Type 0} (e : ViewError) (r : Result T ViewError) → IsErrAnd r (λ y. y ≡ e) → e ≢ WriteFailed → IsErrOf r WriteFailed → ⊥
 not_passed e (Ok x) is other failed = absurd is
 not_passed e (Err y) is other failed = let same : e ≡ WriteFailed = cc in absurd (other same)
+
+-- known bytes keep themselves
+known_keeps : (known : Option (List ℕ)) → Keeps known known
+known_keeps None = tt
+known_keeps (Some bytes) = refl
+
+-- where an output changes only as its own writer fails, any other refusal keeps what is known of it
+pub kept_unwritten : {T S : Type 0} (r : Result T ViewError) (contents : S → Option (List ℕ)) (old new : S) → IfErr r (λ e. (e ≡ WriteFailed) ⊎ (new ≡ old)) → IfErr r (λ e. e ≢ WriteFailed → Keeps (contents old) (contents new))
+kept_unwritten (Ok x) contents old new h = tt
+kept_unwritten (Err e) contents old new (inl failed) = λ other. absurd (other failed)
+kept_unwritten (Err e) contents old new (inr same) = λ other. subst (λ state. Keeps (contents old) (contents state)) (sym same) (known_keeps (contents old))

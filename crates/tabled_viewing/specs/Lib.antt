@@ -8,3 +8,4 @@ pub mod Notes
 pub mod View
 pub mod Itself
 pub mod Said
+pub mod Told

@@ -32,12 +32,15 @@ columns_chosen request (Some word) rows = selected (columns_named word (headings
 abbrev pub with_numbers : Request → Table → Table
 with_numbers request rows = if request.has_row_numbers then numbered request.has_header rows else rows
 
--- the rows before columns are chosen, and the rows that are shown
+-- the rows before columns are chosen, before they have their numbers, and as they are shown
 abbrev pub rows_taken : Request → Table → Table
 rows_taken request rows = first_rows request.head request.has_header (rows_filled request rows)
 
+abbrev pub rows_chosen : Request → List (List ℕ) → Table → Table
+rows_chosen request words rows = columns_chosen request (word_at words request.columns) (rows_taken request rows)
+
 unfoldable pub rows_shown : Request → List (List ℕ) → Table → Table
-rows_shown request words rows = with_numbers request (columns_chosen request (word_at words request.columns) (rows_taken request rows))
+rows_shown request words rows = with_numbers request (rows_chosen request words rows)
 
 -- their texts: cleaned, unless they are to be left as they are
 unfoldable pub texts_shown : Request → Table → Table

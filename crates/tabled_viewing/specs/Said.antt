@@ -1,7 +1,6 @@
 -- What the program says of a refusal, in one line.
 use Rattle.std.specs.List.{slice_split}
 use Rattle.std.specs.Prelude.{ℕ, ◌+◌, ◌-◌, ◌^◌, Bool, if◌then◌else◌, min, List, [], ◌∷◌, ◌++◌, codes, decimal, slice_index_or, Option, Some, None}
-use Rattle.tabled_clean.specs.Line.{cleaned_line}
 use Rattle.tabled_input.specs.declared.error.InputError.{InputError}
 use Rattle.tabled_input.specs.declared.error.InputError.TheVariants as input
 use Rattle.tabled_input.specs.declared.read.TheConstants.{INPUT_LIMIT}
@@ -13,6 +12,7 @@ use Rattle.tabled_request.specs.declared.options.OptionName.{OptionName}
 use Rattle.tabled_request.specs.declared.options.OptionName.TheVariants as option
 use Rattle.tabled_request.specs.Columns.{is_comma}
 use Rattle.tabled_request.specs.Options.{name_of, option_near}
+use Rattle.tabled_viewing.specs.Told.{told}
 use Rattle.tabled_viewing.specs.declared.error.ViewError.{ViewError}
 use Rattle.tabled_viewing.specs.declared.notes.Notes.{Notes}
 use Rattle.tabled_viewing.specs.declared.error.ViewError.TheVariants.{Given, Words, OpenFailed, Input, UnequalRows, TooManyCells, UnknownColumn, OutOfMemory, WriteFailed}
@@ -23,7 +23,7 @@ word words n = slice_index_or words n []
 
 -- a text on one line, between quotes
 abbrev pub quoted : List ℕ → List ℕ
-quoted text = 34 ∷ (cleaned_line text ++ 34 ∷ [])
+quoted text = 34 ∷ (told text ++ 34 ∷ [])
 
 -- a number that is counted from 0, counted from 1, as far as numbers go
 abbrev pub from_one : ℕ → ℕ
@@ -52,8 +52,8 @@ values other = codes "nothing"
 abbrev pub said_of_unknown : List ℕ → List ℕ
 said_of_unknown word =
     elim (option_near word) [
-      | None ↦ cleaned_line word ++ codes " is no option (--help shows them)"
-      | Some option ↦ cleaned_line word ++ (codes " is no option (perhaps " ++ (name_of option ++ codes "; --help shows them)"))
+      | None ↦ told word ++ codes " is no option (--help shows them)"
+      | Some option ↦ told word ++ (codes " is no option (perhaps " ++ (name_of option ++ codes "; --help shows them)"))
     ]
 
 abbrev pub said_of_no_value : OptionName → List ℕ

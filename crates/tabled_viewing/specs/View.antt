@@ -5,12 +5,14 @@ use Rattle.tabled_width.specs.declared.limit.Overflow.{Overflow}
 use Rattle.tabled_width.specs.declared.limit.Overflow.TheVariants.{Wrap, WrapWords, Truncate}
 use Rattle.tabled_configuration.specs.Configuration.{ConfigEvent, borders_replaced}
 use Rattle.tabled_painting.specs.PaintedTable.{colored_text}
+use Rattle.tabled_painting.specs.Widths.{text_width}
 use Rattle.tabled_width.specs.Texts.{Table, pieces, width_of_text}
 use Rattle.tabled_style.specs.declared.ready_style.ReadyStyle.{ReadyStyle}
 use Rattle.tabled_style.specs.Named.{shown, ready_applied}
+use Rattle.tabled_measure.specs.Cells.{margin_set}
 use Rattle.tabled_measure.specs.Changed.{CellsArePrintable}
 use Rattle.tabled_text.specs.Fitted.{IsFitted, frame_width, least_width}
-use Rattle.tabled_text.specs.TextTable.{painted, text_of}
+use Rattle.tabled_text.specs.TextTable.{look_of, painted, text_of}
 use Rattle.tabled_input.specs.Input.{rows_in}
 use Rattle.tabled_request.specs.Sides.{sides_of}
 use Rattle.tabled_request.specs.Words.{word_at}
@@ -50,6 +52,11 @@ IsKeptWithin cuts_off width events before after = (how : Overflow) × IsKeptBy c
 abbrev pub IsWithin : Bool → Option ℕ → List ConfigEvent → Table → Table → Type 0
 IsWithin cuts_off None events before after = after ≡ before
 IsWithin cuts_off (Some width) events before after = IsKeptWithin cuts_off width events before after
+
+-- the table of these texts is no wider than asked, where its texts are printable and each of its columns has room for one character
+abbrev pub KeepsWidth : Option ℕ → List ConfigEvent → Table → Table → Type 0
+KeepsWidth width events texts table =
+    (most : ℕ) → width ≡ Some most → CellsArePrintable texts → least_width 1 events texts ≤ most → text_width (look_of events table) (margin_set events) ≤ most
 
 -- whether a style draws a line above the table, and one below it
 abbrev pub draws_above : ReadyStyle → Bool

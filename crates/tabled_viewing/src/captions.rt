@@ -7,12 +7,13 @@ ghost use Rattle.tabled_configuration.specs.Configuration.{ConfigEvent, settings
 ghost use Rattle.tabled_viewing.specs.Captions.{beside, caption, cut_to, has_room, lettering, on_line, shown_text, takes_one, written_on_line};
 
 use std::alloc::Global;
+use std::convert::AsStr;
 use tabled_border::OutOfMemory;
 use tabled_clean::cleaned;
 use tabled_formatting::Alignment;
 use tabled_object::{Row, Rows};
 use tabled_options::LineText;
-use tabled_text::TextTable;
+use tabled_text::Table;
 use tabled_width::truncated;
 use unicode_width::UnicodeWidthChar;
 
@@ -43,7 +44,7 @@ fn are_within(columns: usize, widths: &[usize]) -> bool
 
 /// Whether a text has room on a line of the table, between two spaces: each of its characters takes one column, and it is no wider than the
 /// columns of the table together.
-fn has_room(table: &TextTable, text: &str) -> bool
+fn has_room<T: AsStr + Drop>(table: &Table<T>, text: &str) -> bool
     ensures { result ≡ has_room table.now.texts text.now }
 {
     let count = text.chars().count();
@@ -98,8 +99,8 @@ fn lettering(alloc: Global, text: &str, line: usize) -> Result<LineText<Row>, Ou
 }
 
 /// Writes a text in the middle of the horizontal line above the row of that number. Where memory is refused nothing changes.
-fn write_on_line(
-    table: &mut TextTable,
+fn write_on_line<T: AsStr + Drop>(
+    table: &mut Table<T>,
     alloc: Global,
     text: &str,
     line: usize,
@@ -113,15 +114,15 @@ fn write_on_line(
 }
 
 /// Whether a text stands on a line of the table: the line is drawn, and has room for it.
-fn stands_on_line(table: &TextTable, text: &str, is_drawn: bool) -> bool
+fn stands_on_line<T: AsStr + Drop>(table: &Table<T>, text: &str, is_drawn: bool) -> bool
     ensures { result ≡ (is_drawn && has_room table.now.texts text.now) }
 {
     is_drawn && has_room(table, text)
 }
 
 /// Writes a text on a line of the table, where the line is drawn and has room for it, and returns what stands beside the table for it then.
-fn put_text(
-    table: &mut TextTable,
+fn put_text<T: AsStr + Drop>(
+    table: &mut Table<T>,
     alloc: Global,
     text: String,
     is_drawn: bool,
@@ -143,8 +144,8 @@ fn put_text(
 
 /// Writes a text, if there is one, on a line of the table, where the line is drawn and has room for it, and returns what stands beside the
 /// table for it then: the text and a line feed, or nothing. Where memory is refused the text may have been written.
-pub(crate) fn put_caption(
-    table: &mut TextTable,
+pub(crate) fn put_caption<T: AsStr + Drop>(
+    table: &mut Table<T>,
     alloc: Global,
     text: Option<String>,
     is_drawn: bool,

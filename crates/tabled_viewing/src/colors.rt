@@ -8,16 +8,21 @@ ghost use Rattle.tabled_colorization.specs.declared.pattern.Pattern.TheVariants 
 ghost use Rattle.tabled_viewing.specs.Colors.{aligned, bold, colored, colored_if, aligned_column, emboldened, frame_colored, gray, plain, shade_of, striped};
 
 use std::alloc::Global;
+use std::convert::AsStr;
 use tabled_border::OutOfMemory;
 use tabled_color::{BorderColor, Color};
 use tabled_colorization::Colorization;
 use tabled_formatting::Alignment;
 use tabled_object::{Columns, Rows, Segment};
 use tabled_request::{ColumnSide, FrameColor, Request};
-use tabled_text::TextTable;
+use tabled_text::Table;
 
 /// Puts the cells of a column at a side; at the left they stand where nothing is set.
-fn align_column(table: &mut TextTable, col: usize, side: ColumnSide) -> Result<(), OutOfMemory>
+fn align_column<T: AsStr + Drop>(
+    table: &mut Table<T>,
+    col: usize,
+    side: ColumnSide,
+) -> Result<(), OutOfMemory>
     ensures config { OnOk result (Changes (aligned_column side col) table.old.config table.new.config) }
     ensures texts { table.new.texts ≡ table.old.texts }
 {
@@ -29,7 +34,7 @@ fn align_column(table: &mut TextTable, col: usize, side: ColumnSide) -> Result<(
 }
 
 /// Puts the cells of each column where they stand.
-fn align(table: &mut TextTable, sides: &[ColumnSide]) -> Result<(), OutOfMemory>
+fn align<T: AsStr + Drop>(table: &mut Table<T>, sides: &[ColumnSide]) -> Result<(), OutOfMemory>
     ensures config { OnOk result (Changes (aligned 0 sides.now) table.old.config table.new.config) }
     ensures texts { table.new.texts ≡ table.old.texts }
 {
@@ -80,7 +85,11 @@ fn stripes(alloc: Global) -> Result<Colorization, OutOfMemory>
 }
 
 /// Gives every other row a background, if that is wanted.
-fn stripe(table: &mut TextTable, alloc: Global, is_wanted: bool) -> Result<(), OutOfMemory>
+fn stripe<T: AsStr + Drop>(
+    table: &mut Table<T>,
+    alloc: Global,
+    is_wanted: bool,
+) -> Result<(), OutOfMemory>
     ensures config { OnOk result (Changes (if is_wanted then striped table.old.texts else []) table.old.config table.new.config) }
     ensures texts { table.new.texts ≡ table.old.texts }
 {
@@ -92,7 +101,7 @@ fn stripe(table: &mut TextTable, alloc: Global, is_wanted: bool) -> Result<(), O
 }
 
 /// Makes the first row bold, if that is wanted.
-fn embolden(table: &mut TextTable, is_wanted: bool) -> Result<(), OutOfMemory>
+fn embolden<T: AsStr + Drop>(table: &mut Table<T>, is_wanted: bool) -> Result<(), OutOfMemory>
     ensures config { OnOk result (Changes (if is_wanted then emboldened table.old.texts else []) table.old.config table.new.config) }
     ensures texts { table.new.texts ≡ table.old.texts }
 {
@@ -111,8 +120,8 @@ fn all_sides(alloc: Global, color: FrameColor) -> Result<BorderColor, OutOfMemor
 }
 
 /// Colors all borders, where a color is given.
-fn color_frame(
-    table: &mut TextTable,
+fn color_frame<T: AsStr + Drop>(
+    table: &mut Table<T>,
     alloc: Global,
     color: Option<FrameColor>,
 ) -> Result<(), OutOfMemory>
@@ -127,7 +136,11 @@ fn color_frame(
 }
 
 /// Colors the table as the request says.
-fn color(table: &mut TextTable, alloc: Global, request: Request) -> Result<(), OutOfMemory>
+fn color<T: AsStr + Drop>(
+    table: &mut Table<T>,
+    alloc: Global,
+    request: Request,
+) -> Result<(), OutOfMemory>
     ensures config { OnOk result (Changes (colored request table.old.texts) table.old.config table.new.config) }
     ensures texts { table.new.texts ≡ table.old.texts }
 {
@@ -137,8 +150,8 @@ fn color(table: &mut TextTable, alloc: Global, request: Request) -> Result<(), O
 }
 
 /// Colors the table as the request says, if there are colors.
-fn color_if(
-    table: &mut TextTable,
+fn color_if<T: AsStr + Drop>(
+    table: &mut Table<T>,
     alloc: Global,
     request: Request,
     is_colored: bool,
@@ -154,8 +167,8 @@ fn color_if(
 
 /// Puts the cells of each column where they stand, and colors the table, if there are colors. Where memory is refused some of it may have
 /// been done.
-pub(crate) fn place_and_color(
-    table: &mut TextTable,
+pub(crate) fn place_and_color<T: AsStr + Drop>(
+    table: &mut Table<T>,
     alloc: Global,
     request: Request,
     sides: &[ColumnSide],

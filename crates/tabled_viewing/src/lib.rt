@@ -15,6 +15,7 @@ mod program;
 mod rows;
 mod saying;
 mod texts;
+mod told;
 
 pub use asked::{is_about_itself, lacks_color, understood};
 pub use error::ViewError;

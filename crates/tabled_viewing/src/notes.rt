@@ -6,8 +6,9 @@ ghost use Rattle.tabled_configuration.specs.Configuration.{ConfigEvent};
 ghost use Rattle.tabled_viewing.specs.Notes.{no_notes, notes_of, width_missed};
 
 use crate::asked::{lacks_color, width_asked};
+use std::convert::AsStr;
 use tabled_request::{Request, Surroundings};
-use tabled_text::TextTable;
+use tabled_text::Table;
 
 /// What is said beside a table that is shown.
 #[derive(Clone, Copy, Debug, PartialEq, Eq)]
@@ -38,7 +39,7 @@ fn width_if(is_missed: bool, width: usize) -> Option<usize>
 }
 
 /// The number of columns that a table was to stay within, where it takes more.
-fn width_missed(table: &TextTable, width: Option<usize>) -> Option<usize>
+fn width_missed<T: AsStr + Drop>(table: &Table<T>, width: Option<usize>) -> Option<usize>
     ensures { (events : List ConfigEvent) → borders.Shows events table.now.config.spanned → result ≡ width_missed width events table.now.texts }
 {
     match width {
@@ -48,7 +49,11 @@ fn width_missed(table: &TextTable, width: Option<usize>) -> Option<usize>
 }
 
 /// What is said beside a table whose borders are drawn.
-pub(crate) fn notes_of(table: &TextTable, request: Request, around: Surroundings) -> Notes
+pub(crate) fn notes_of<T: AsStr + Drop>(
+    table: &Table<T>,
+    request: Request,
+    around: Surroundings,
+) -> Notes
     ensures { (events : List ConfigEvent) → borders.Shows events table.now.config.spanned → result ≡ notes_of request around events table.now.texts }
 {
     Notes {

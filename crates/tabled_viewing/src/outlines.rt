@@ -2,34 +2,36 @@
 
 ghost use Rattle.std.specs.Prelude.{◌≡◌, [], Some, None, map, option_map, string_bytes, IfOk, OnOk};
 ghost use Rattle.tabled_configuration.specs.Colored.{Changes};
-ghost use Rattle.tabled_width.specs.Texts.{Table, texts};
+ghost use Rattle.tabled_text.specs.TextTable.{lent_texts};
+ghost use Rattle.tabled_width.specs.Texts.{Table as Texts};
 ghost use Rattle.tabled_viewing.specs.Outlines.{AreMarked, draws_boxes, entity_of, index_of, line_of, marked, named, outlined, outlines, text_at, touch_of};
 
-use crate::rows::column_count;
 use std::alloc::Global;
+use std::convert::AsStr;
 use tabled_border::OutOfMemory;
 use tabled_highlight::Highlight;
+use tabled_numbers::column_count;
 use tabled_object::{Entity, Position};
 use tabled_request::{Choice, NamedCells, Request, named_cells, word_at};
 use tabled_style::{Border, On, ReadyStyle};
-use tabled_text::TextTable;
+use tabled_text::Table;
 
 /// The text of a cell, the empty one outside the table.
-fn text_at(rows: &[Vec<String>], pos: Position) -> &str
-    ensures { result.now ≡ text_at (texts rows.now) pos }
+fn text_at<'a>(rows: &[Vec<&'a str>], pos: Position) -> &'a str
+    ensures { result.now ≡ text_at (lent_texts rows.now) pos }
 {
     let Some(row) = rows.get(pos.row) else {
         return "";
     };
     match row.get(pos.col) {
-        Some(text) => text.as_str(),
+        Some(text) => text,
         None => "",
     }
 }
 
 /// The cells of rows whose text a word is, in row order.
-fn marked(alloc: Global, rows: &[Vec<String>], word: &str) -> Result<Vec<Entity>, OutOfMemory>
-    ensures { IfOk result (λ cells. cells.items ≡ marked (texts rows.now) word.now) }
+fn marked(alloc: Global, rows: &[Vec<&str>], word: &str) -> Result<Vec<Entity>, OutOfMemory>
+    ensures { IfOk result (λ cells. cells.items ≡ marked (lent_texts rows.now) word.now) }
 {
     let mut cells = Vec::new(alloc);
     for pos in Entity::Global.iter(rows.len(), column_count(rows)) {
@@ -43,10 +45,10 @@ fn marked(alloc: Global, rows: &[Vec<String>], word: &str) -> Result<Vec<Entity>
 /// Returns the cells of rows whose text a word is, as it stands in them, if there is a word.
 pub(crate) fn cells_marked(
     alloc: Global,
-    rows: &[Vec<String>],
+    rows: &[Vec<&str>],
     word: Option<&str>,
 ) -> Result<Option<Vec<Entity>>, OutOfMemory>
-    ensures { IfOk result (λ cells. option_map (λ cells. cells.items) cells ≡ option_map (marked (texts rows.now)) (option_map (λ word. word.now) word.entry)) }
+    ensures { IfOk result (λ cells. option_map (λ cells. cells.items) cells ≡ option_map (marked (lent_texts rows.now)) (option_map (λ word. word.now) word.entry)) }
 {
     match word {
         Some(word) => Ok(Some(marked(alloc, rows, word)?)),
@@ -144,8 +146,8 @@ fn outline_of(style: ReadyStyle, cells: Vec<Entity>) -> Highlight<Vec<Entity>>
 }
 
 /// Puts an outline around cells of the table, if there are any to have one.
-fn put_outline(
-    table: &mut TextTable,
+fn put_outline<T: AsStr + Drop>(
+    table: &mut Table<T>,
     style: ReadyStyle,
     cells: Option<Vec<Entity>>,
 ) -> Result<(), OutOfMemory>
@@ -160,15 +162,15 @@ fn put_outline(
 
 /// Puts the outlines around cells that the request asks for: around those that a word names, and then around those whose text a word is, which
 /// are given.
-pub(crate) fn outline(
-    table: &mut TextTable,
+pub(crate) fn outline<T: AsStr + Drop>(
+    table: &mut Table<T>,
     alloc: Global,
     request: Request,
     style: ReadyStyle,
     words: &[String],
     marked: Option<Vec<Entity>>,
 ) -> Result<(), OutOfMemory>
-    ensures config { (rows : Table) → AreMarked request (map string_bytes words.now) rows marked
+    ensures config { (rows : Texts) → AreMarked request (map string_bytes words.now) rows marked
         → OnOk result (Changes (outlines request style (map string_bytes words.now) rows table.old.texts) table.old.config table.new.config) }
     ensures texts { table.new.texts ≡ table.old.texts }
 {

@@ -17,7 +17,7 @@ use crate::page::write_page;
 use crate::texts::told_of_itself;
 use std::alloc::Global;
 use std::io::{Read, Write};
-use tabled_input::read_rows;
+use tabled_input::Input;
 use tabled_request::{Request, Surroundings};
 
 /// Writes a text whole. How much was written before a write failed is left open.
@@ -52,7 +52,8 @@ fn view<R: Read, W: Write>(
     ensures unwritten { IfErr result (λ e. e ≢ refusals.WriteFailed → Keeps (W.contents output.old) (W.contents output.new)) }
 {
     let style = style_asked(request, words, around)?;
-    let rows = read_rows(alloc, cells_asked(request, words), input)?;
+    let read = Input::read(alloc, cells_asked(request, words), input)?;
+    let rows = read.rows(alloc)?;
     write_page(alloc, request, style, words, around, rows, output)
 }
 

@@ -7,9 +7,9 @@ ghost use Rattle.tabled_viewing.specs.Said.{noted, out_of_memory, quoted, said, 
 
 use crate::error::ViewError;
 use crate::notes::Notes;
+use crate::told::told;
 use std::alloc::Global;
 use tabled_border::OutOfMemory;
-use tabled_clean::cleaned_line;
 use tabled_input::{INPUT_LIMIT, InputError};
 use tabled_request::{GivenError, OptionName, WordsError};
 
@@ -27,7 +27,7 @@ fn word(words: &[String], number: usize) -> &str
 fn quoted(alloc: Global, text: &str) -> Result<String, OutOfMemory>
     ensures { IfOk result (λ line. string_bytes line ≡ quoted text.now) }
 {
-    let text = cleaned_line(alloc, text)?;
+    let text = told(alloc, text)?;
     Ok(format!(in alloc; "\"{text}\"")?)
 }
 
@@ -60,7 +60,7 @@ fn values(option: OptionName) -> &'static str
 fn said_of_unknown(alloc: Global, word: &str) -> Result<String, OutOfMemory>
     ensures { IfOk result (λ text. string_bytes text ≡ said_of_unknown word.now) }
 {
-    let given = cleaned_line(alloc, word)?;
+    let given = told(alloc, word)?;
     match OptionName::near(word) {
         Some(option) => {
             let name = option.name();

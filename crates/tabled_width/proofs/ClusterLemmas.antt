@@ -4,6 +4,7 @@ use Rattle.std.specs.List.{All, concat}
 use Rattle.std.specs.Str.{IsUtf8, IsCharBoundary}
 use Rattle.std.proofs.lemmas.List.Elements.{All-nil, All-cons, All-head, All-tail}
 use Rattle.std.proofs.lemmas.Str.{encodes-append, encodes-chars, length-le-encodes, IsCharBoundary-from_drop}
+use Rattle.tabled_width.specs.Marks.{is_spacing_mark}
 use Rattle.tabled_width.specs.Clusters.{takes_none, is_skin_tone, is_indicator, is_half_flag, ends_with_joiner, belongs, grouped, clusters_of, clusters, IsAfterCluster}
 
 half_flag_after : (front : List ℕ) (last c : ℕ) → is_half_flag ((front ++ last ∷ []) ++ c ∷ []) ≡ false
@@ -18,11 +19,11 @@ joiner_after (x ∷ y ∷ front) last = joiner_after (y ∷ front) last
 
 -- whether a character belongs to a cluster, by the last character of the cluster
 pub belongs_by : (front : List ℕ) (last : ℕ) (half : Bool) (c : ℕ) → half ≡ is_half_flag (front ++ last ∷ [])
-    → (takes_none c || is_skin_tone c || (last == 0x200D) || (half && is_indicator c)) ≡ belongs (front ++ last ∷ []) c
+    → (takes_none c || is_skin_tone c || (last == 0x200D) || (half && is_indicator c) || is_spacing_mark c) ≡ belongs (front ++ last ∷ []) c
 unfolding belongs
 belongs_by front last half c lone =
-    ap (λ joiner. takes_none c || is_skin_tone c || joiner || (half && is_indicator c)) (sym (joiner_after front last))
-    ∙ ap (λ flag. takes_none c || is_skin_tone c || ends_with_joiner (front ++ last ∷ []) || (flag && is_indicator c)) lone
+    ap (λ joiner. takes_none c || is_skin_tone c || joiner || (half && is_indicator c) || is_spacing_mark c) (sym (joiner_after front last))
+    ∙ ap (λ flag. takes_none c || is_skin_tone c || ends_with_joiner (front ++ last ∷ []) || (flag && is_indicator c) || is_spacing_mark c) lone
 
 grouped_more : (cluster : List ℕ) (c : ℕ) (cs : List ℕ) → belongs cluster c ≡ true → grouped cluster (c ∷ cs) ≡ grouped (cluster ++ c ∷ []) cs
 unfolding grouped
@@ -44,7 +45,7 @@ pub record Begun (first : ℕ) (start rest : List ℕ) (last : ℕ) (half : Bool
   pub lone : half ≡ is_half_flag (front ++ last ∷ [])
 
 pub grown : (first : ℕ) (start rest more : List ℕ) (last c : ℕ) (half joins : Bool) → Begun first start rest last half → chars rest ≡ c ∷ chars more → rest ≡ encode_utf8 c ++ more
-    → joins ≡ (takes_none c || is_skin_tone c || (last == 0x200D) || (half && is_indicator c)) → joins ≡ true → Begun first start more c false
+    → joins ≡ (takes_none c || is_skin_tone c || (last == 0x200D) || (half && is_indicator c) || is_spacing_mark c) → joins ≡ true → Begun first start more c false
 grown first start rest more last c half joins so_far next cut is good = record {
   front = so_far.front ++ last ∷ [];
   groups = so_far.groups ∙ ap (grouped (so_far.front ++ last ∷ [])) next
@@ -57,7 +58,7 @@ grown first start rest more last c half joins so_far next cut is good = record {
 }
 
 pub ended : (first : ℕ) (start rest more : List ℕ) (last c : ℕ) (half joins : Bool) → Begun first start rest last half → chars rest ≡ c ∷ chars more
-    → joins ≡ (takes_none c || is_skin_tone c || (last == 0x200D) || (half && is_indicator c)) → joins ≡ false → IsAfterCluster first start rest
+    → joins ≡ (takes_none c || is_skin_tone c || (last == 0x200D) || (half && is_indicator c) || is_spacing_mark c) → joins ≡ false → IsAfterCluster first start rest
 ended first start rest more last c half joins so_far next is bad = record {
   cluster = so_far.front ++ last ∷ [];
   clusters = so_far.groups ∙ ap (grouped (so_far.front ++ last ∷ [])) next

@@ -1,6 +1,7 @@
 -- Rows of a line of printable ASCII, of which each byte is a cluster of one column.
 use Rattle.std.proofs.Common.{◌≡◌, ◌==◌, ℕ, ◌+◌, ◌-◌, ◌<◌, ◌≤◌, zero, suc, max, min, ⊎_elim, nat_le, Bool, true, false, ◌&&◌, ◌||◌, unwrap_or, lit<, if◌then◌else◌, Some, List, [], ◌∷◌, ◌++◌, map, length, take, drop, slice_range, encode_utf8, chars, encode_utf8_all, refl, sym, ap, ◌∙◌, arith, append_assoc, append-nil, length-append}
-use Rattle.std.specs.List.{All, list_all, join_with_byte}
+use Rattle.std.specs.List.{All, list_all, list_any, join_with_byte}
+use Rattle.std.specs.Int.{is_in_range}
 use Rattle.std.proofs.lemmas.Bool.{and_parts, cases_lt, le-leb, lt-leb}
 use Rattle.std.proofs.lemmas.Bool.Decides.{nat_tests}
 use Rattle.std.proofs.lemmas.List.{take_all}
@@ -9,6 +10,7 @@ use Rattle.std.proofs.lemmas.List.Folds.{list_all-append}
 use Rattle.std.proofs.lemmas.Str.{encode_ascii, chars-IsAscii}
 use Rattle.unicode_width.specs.Width.{char_width}
 use Rattle.tabled_width.specs.Texts.{begins_with, fits, is_printable, width_of_text}
+use Rattle.tabled_width.specs.Marks.{spacing_marks, is_near_marks, is_spacing_mark}
 use Rattle.tabled_width.specs.Clusters.{takes_none, is_skin_tone, is_indicator, belongs, grouped, clusters_of, clusters}
 use Rattle.tabled_width.specs.CutOff.{beginning}
 use Rattle.tabled_width.specs.Rows.{close, rows}
@@ -38,13 +40,21 @@ no_indicator c is = grind (arith, nat_tests)
 no_joiner : (c : ℕ) → is_printable c ≡ true → (c == 0x200D) ≡ false
 no_joiner c is = grind (arith, nat_tests)
 
+no_mark_near : (c : ℕ) → is_printable c ≡ true → is_near_marks c ≡ false
+no_mark_near c is = grind (arith, nat_tests)
+
+no_spacing_mark : (c : ℕ) → is_printable c ≡ true → is_spacing_mark c ≡ false
+unfolding is_spacing_mark
+no_spacing_mark c is = ap (λ near. near && list_any (λ pair. is_in_range pair.0 pair.1 c) spacing_marks) (no_mark_near c is)
+
 stands_alone : (a c : ℕ) → is_printable a ≡ true → is_printable c ≡ true → belongs (a ∷ []) c ≡ false
 unfolding belongs
 stands_alone a c first is =
-    ap (λ none. none || is_skin_tone c || (a == 0x200D) || (is_indicator a && is_indicator c)) (takes_one c is)
-    ∙ ap (λ tone. tone || (a == 0x200D) || (is_indicator a && is_indicator c)) (no_skin_tone c is)
-    ∙ ap (λ joiner. joiner || (is_indicator a && is_indicator c)) (no_joiner a first)
-    ∙ ap (λ half. half && is_indicator c) (no_indicator a first)
+    ap (λ none. none || is_skin_tone c || (a == 0x200D) || (is_indicator a && is_indicator c) || is_spacing_mark c) (takes_one c is)
+    ∙ ap (λ tone. tone || (a == 0x200D) || (is_indicator a && is_indicator c) || is_spacing_mark c) (no_skin_tone c is)
+    ∙ ap (λ joiner. joiner || (is_indicator a && is_indicator c) || is_spacing_mark c) (no_joiner a first)
+    ∙ ap (λ half. (half && is_indicator c) || is_spacing_mark c) (no_indicator a first)
+    ∙ no_spacing_mark c is
 
 grouped_singles : (b : ℕ) (bs : List ℕ) → list_all is_printable (b ∷ bs) ≡ true → grouped (b ∷ []) bs ≡ singles (b ∷ bs)
 unfolding grouped

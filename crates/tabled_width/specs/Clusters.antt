@@ -1,6 +1,7 @@
 -- Which characters of a line belong together: a line is cut between its clusters, and never within one.
 use Rattle.std.specs.Prelude.{◌≡◌, ℕ, Bool, false, ◌||◌, ◌&&◌, ◌==◌, nat_le, List, [], ◌∷◌, ◌++◌, map, if◌then◌else◌, chars, encode_utf8, encode_utf8_all, unwrap_or}
 use Rattle.unicode_width.specs.Width.{char_width}
+use Rattle.tabled_width.specs.Marks.{is_spacing_mark}
 
 -- whether a character takes no columns of its own, as an accent, a variation selector or a joiner
 abbrev pub takes_none : ℕ → Bool
@@ -26,10 +27,11 @@ ends_with_joiner (character ∷ []) = character == 0x200D
 ends_with_joiner (_ ∷ character ∷ more) = ends_with_joiner (character ∷ more)
 
 -- whether a character belongs to the cluster before it: it takes no columns, or is a skin tone, or follows the joiner, or makes
--- a flag of a regional indicator that stands alone
+-- a flag of a regional indicator that stands alone, or is a spacing mark
 unfoldable pub belongs : List ℕ → ℕ → Bool
 belongs cluster character =
     takes_none character || is_skin_tone character || ends_with_joiner cluster || (is_half_flag cluster && is_indicator character)
+    || is_spacing_mark character
 
 -- the clusters of characters of which the first ones, `cluster`, are together
 unfoldable pub grouped : List ℕ → List ℕ → List (List ℕ)

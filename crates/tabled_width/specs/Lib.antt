@@ -1,4 +1,5 @@
 pub mod Texts
+pub mod Marks
 pub mod Clusters
 pub mod Rows
 pub mod Measured

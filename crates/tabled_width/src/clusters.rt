@@ -2,8 +2,10 @@
 
 ghost use Rattle.std.specs.Prelude.{◌≡◌, ◌<◌, ◌≤◌, [], ◌∷◌, ◌++◌, length, encode_utf8, chars, MatchOption, IfSome, ◌||◌, ◌&&◌, ◌==◌};
 ghost use Rattle.tabled_width.specs.Clusters.{clusters, IsAfterCluster, is_indicator, is_skin_tone, takes_none};
+ghost use Rattle.tabled_width.specs.Marks.{is_spacing_mark};
 ghost use Rattle.tabled_width.specs.Texts.{begins_with};
 
+use crate::marks::is_spacing_mark;
 use unicode_width::UnicodeWidthChar;
 
 /// Zero width joiner: what follows it stays with what precedes it.
@@ -58,12 +60,14 @@ fn is_indicator(character: char) -> bool
 
 /// Whether a character belongs to the cluster before it, which ends with `last`.
 fn belongs(is_half_flag: bool, last: char, character: char) -> bool
-    ensures { result ≡ (takes_none character || is_skin_tone character || (last == 0x200D) || (is_half_flag && is_indicator character)) }
+    ensures { result ≡ (takes_none character || is_skin_tone character || (last == 0x200D) || (is_half_flag && is_indicator character)
+        || is_spacing_mark character) }
 {
     takes_none(character)
         || is_skin_tone(character)
         || last == JOINER
         || (is_half_flag && is_indicator(character))
+        || is_spacing_mark(character)
 }
 
 /// What follows the cluster of which a character is the first, where the rest of the line follows that character.
@@ -88,8 +92,9 @@ fn after_cluster(first: char, rest: &str) -> &str
 /// Returns the first cluster of a line and what follows it; `None` where the line is empty.
 ///
 /// A cluster is a character with what belongs to it: characters that take no columns of their own, such as accents, variation
-/// selectors and U+200D; the skin tone of an emoji; what follows U+200D; and of a flag the second regional indicator. A character
-/// that belongs to another is a cluster by itself where no other stands before it. A tab is a cluster of one column.
+/// selectors and U+200D; spacing marks, as the vowel signs of Bengali, Devanagari and Tamil; the skin tone of an emoji; what follows
+/// U+200D; and of a flag the second regional indicator. A character that belongs to another is a cluster by itself where no other
+/// stands before it. A tab is a cluster of one column.
 pub fn first_cluster(line: &str) -> Option<(&str, &str)>
     ensures clusters { MatchOption result (clusters line.now ≡ [])
         (λ parts. clusters line.now ≡ parts.0.now ∷ clusters parts.1.now) }

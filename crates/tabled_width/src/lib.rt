@@ -10,6 +10,7 @@ mod cut_off;
 mod height;
 mod limit;
 mod lines;
+mod marks;
 mod measure;
 mod narrow;
 mod repeat;

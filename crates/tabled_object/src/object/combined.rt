@@ -2,7 +2,7 @@
 
 ghost use Rattle.std.specs.Prelude.{◌≡◌, ◌++◌};
 
-use crate::{Difference, Entity, ExactRecords, Object, Records};
+use crate::{Difference, Entity, ExactRecords, Intersection, Object, Records, SegmentAll};
 use std::alloc::Global;
 use std::iter::Chain;
 use tabled_border::OutOfMemory;
@@ -10,7 +10,7 @@ use tabled_border::OutOfMemory;
 /// How an object and another make one.
 pub trait Combine: Sized {
     /// What this object lists, and then what the other one lists.
-    fn and<O>(self, other: O) -> Union<Self, O>
+    final fn and<O>(self, other: O) -> Union<Self, O>
         ensures left { result.left ≡ self }
         ensures right { result.right ≡ other }
     {
@@ -21,7 +21,7 @@ pub trait Combine: Sized {
     }
 
     /// The cells of the table that this object covers and the other one does not, in row order.
-    fn not<O>(self, other: O) -> Difference<Self, O>
+    final fn not<O>(self, other: O) -> Difference<Self, O>
         ensures kept { result.kept ≡ self }
         ensures left_out { result.left_out ≡ other }
     {
@@ -29,6 +29,24 @@ pub trait Combine: Sized {
             kept: self,
             left_out: other,
         }
+    }
+
+    /// The cells of the table that this object and the other one both cover, in row order.
+    final fn intersect<O>(self, other: O) -> Intersection<Self, O>
+        ensures left { result.left ≡ self }
+        ensures right { result.right ≡ other }
+    {
+        Intersection {
+            left: self,
+            right: other,
+        }
+    }
+
+    /// The cells of the table that this object does not cover, in row order.
+    final fn inverse(self) -> Difference<SegmentAll, Self>
+        ensures { result.left_out ≡ self }
+    {
+        SegmentAll.not(self)
     }
 }
 

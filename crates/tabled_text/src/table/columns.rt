@@ -11,7 +11,8 @@ use tabled_measure::numeric::{numeric_columns, set_at_right};
 
 impl<T: AsStr + Drop> Table<T> {
     /// Sets the texts of columns of numbers at the right: each cell of such a column below the first `headings` rows is a number, as
-    /// `tabled_numbers::is_number` says, or empty, and one of them at least is a number. Where memory is refused the table is as it was.
+    /// `tabled_numbers::is_number` says, or says that there is none, as one that is empty, "-", "n/a", "null" or "nan", in large or small
+    /// letters; and one of them at least is a number. Where memory is refused the table is as it was.
     ///
     /// `table.align_numbers(1)?`:
     ///

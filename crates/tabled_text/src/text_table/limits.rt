@@ -12,15 +12,14 @@ ghost use Rattle.tabled_measure.specs.Sizes.{column_count};
 ghost use Rattle.tabled_text.specs.TextTable.{look_printed};
 
 use super::TextTable;
-use crate::fitting::{room_for_texts, texts_asked};
 use std::mem;
 use tabled_border::OutOfMemory;
 use tabled_measure::changing::{
-    Change, Cleaning, ExpandedTabs, LimitedCells, LimitedColumns, are_clean, changed_rows,
+    Change, Cleaning, ExpandedTabs, LimitedCells, LimitedColumns, changed_rows,
 };
 use tabled_measure::measure::sizes_of;
 use tabled_object::{Object, Shape, listed_entities};
-use tabled_width::{Overflow, TextLimit, shares_of};
+use tabled_width::{Overflow, TextLimit};
 
 impl TextTable {
     /// Cleans all texts of the table, so that nothing in them steers a terminal, as `tabled_clean::cleaned` says: a control character but
@@ -38,7 +37,7 @@ impl TextTable {
         ensures config { self.new.config ≡ self.old.config }
         ensures err { OnErr result (self.new ≡ self.old) }
     {
-        if are_clean(self.view().rows) {
+        if self.is_clean() {
             return Ok(());
         }
         self.change_texts(&Cleaning)
@@ -139,11 +138,7 @@ impl TextTable {
         ensures config { self.new.config ≡ self.old.config }
         ensures err { OnErr result (self.new ≡ self.old) }
     {
-        let config = self.config().config();
-        let alloc = config.allocator();
-        let room = room_for_texts(config, self.shape(), total);
-        let asked = texts_asked(alloc, &self.sizes.widths)?;
-        let widths = shares_of(alloc, &asked, room, least.max(1))?;
+        let widths = self.shares(total, least)?;
         self.change_texts(&LimitedColumns {
             widths: &widths,
             how,

@@ -9,10 +9,10 @@ use Rattle.tabled_builder.proofs.RecordLemmas.{lengths}
 use Rattle.tabled_builder.proofs.records.columns_of.Goals as goal
 
 pub returns : goal.returns
-returns c =
+returns g c =
     c.unwrap_or.ensures
     ∙ ap (λ found. unwrap_or found 0) (sym (option_map_id c.max.result)
     ∙ max_from_yields_List c.map.result c.max.result c.max.ensures.ran
     (YieldsList-from_map _ vec_len (YieldsList-from_slice c.args.records.now cc) c.map.ensures.closure (λ x r q k. search (rules, tests))))
     ∙ greatest_found (map vec_len c.args.records.now)
-    ∙ ap greatest (lengths c.args.records.now)
+    ∙ ap greatest (lengths g.T.AsStr.text c.args.records.now)

@@ -16,7 +16,7 @@ returns c =
     if_ok c.in_a_row.result (λ writes made.
     made ∙ ap (map crossing_written) (
     (λ i. c.deref-3.ensures.value i ++ (c.deref-4.ensures.value i ++ c.deref-5.ensures.value i))
-    ∙ three_steps (spanned c.args.shape c.args.cfg.now) first second third by_columns by_rows inner c.in_ok-picture.ensures
+    ∙ three_steps (spanned c.args.shape c.args.cfg.now) first second third by_columns by_rows inner c.in_ok-picture.ensures.pictured
     (from_nothing c.new-by_columns.result.items by_columns (columns_corrected first) c.new-by_columns.ensures.items c.in_ok-correct_columns.ensures)
     (c.in_ok-write.ensures ∙ ap (after_writes first) c.deref.ensures.value)
     (from_nothing c.new-by_rows.result.items by_rows (rows_corrected second) c.new-by_rows.ensures.items c.in_ok-correct_rows.ensures)

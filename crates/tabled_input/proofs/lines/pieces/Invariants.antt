@@ -1,12 +1,12 @@
 -- The cells so far, and those that the rest is cut into.
-use Rattle.std.proofs.Common.{◌≡◌, ◌==◌, ◌++◌, length, map, string_bytes}
+use Rattle.std.proofs.Common.{◌≡◌, ◌==◌, ◌++◌, length, map}
 use Rattle.std.specs.List.{slice_split}
 use Rattle.std.specs.Str.{IsUtf8}
 use Rattle.tabled_input.proofs.lines.pieces.Given as goal
 
 abbrev pub invariant-loop-cell : goal.invariant-loop-cell
 invariant-loop-cell l = record {
-  cut : map string_bytes l.cells.items ++ slice_split (λ b. b == l.separator) l.rest ≡ slice_split (λ b. b == l.separator) l.line;
+  cut : map (λ cell. cell.now) l.cells.items ++ slice_split (λ b. b == l.separator) l.rest ≡ slice_split (λ b. b == l.separator) l.line;
   utf8 : IsUtf8 l.rest;
 }
 

@@ -5,6 +5,7 @@ use Rattle.tabled_grid.proofs.Seen.{on_ok}
 use Rattle.tabled_width.specs.Texts.{Table}
 use Rattle.tabled_measure.specs.Sizes.{column_count}
 use Rattle.tabled_correction.specs.Correction.{correction_events}
+use Rattle.tabled_correction.specs.Corners.{joined_corner_events}
 use Rattle.tabled_kinds.specs.EveryKind.{first_targets, other_targets, InTurn}
 use Rattle.tabled_kinds.proofs.Turns.{nothing_yet, then_one, then_those}
 use Rattle.tabled_kinds.proofs.kinds.every_kind.Goals as goal
@@ -20,11 +21,15 @@ returns-clause-steps c =
     let texts_3 = c.every_other_target.ensures.texts ∙ texts_2 in
     let sizes_2 = c.every_first_target.ensures.sizes in
     let sizes_3 = c.every_other_target.ensures.sizes ∙ sizes_2 in
+    let texts_4 = c.apply.ensures.texts ∙ texts_3 in
+    let sizes_4 = c.apply.ensures.sizes ∙ sizes_3 in
     let first = c.every_first_target.new.table in
     let by_others = subst (λ others. InTurn (other_targets others (length first.texts, column_count first.texts)) first.config c.every_other_target.new.table.config) c.now.ensures c.in_ok-every_other_target.ensures.steps in
-    on_ok c.apply.result (λ corrected.
-    then_one (λ t s before. correction_events (length t, column_count t) before.spanned) _ texts _ sizes _ start.config _ _ texts_3 sizes_3
+    on_ok c.apply-2.result (λ joined.
+    then_one (λ t s before. joined_corner_events (length t, column_count t) before.spanned) _ texts _ sizes _ start.config _ _ texts_4 sizes_4
+    (then_one (λ t s before. correction_events (length t, column_count t) before.spanned) _ texts _ sizes _ start.config _ _ texts_3 sizes_3
     (then_those (λ t s. other_targets others (length t, column_count t)) _ texts _ sizes _ start.config _ _ texts_2 sizes_2
     (then_those (λ t s. first_targets kinds t) _ texts _ sizes _ start.config _ _ refl refl (nothing_yet start.config) c.in_ok-every_first_target.ensures.steps)
     by_others)
-    corrected.2) c.apply.ensures.config
+    c.in_ok-apply.ensures.config.2)
+    joined.2) c.apply-2.ensures.config

@@ -1,5 +1,5 @@
 -- One cell more.
-use Rattle.std.proofs.Common.{string_bytes, arith}
+use Rattle.std.proofs.Common.{arith}
 use Rattle.std.proofs.lemmas.Grind.{common_steps}
 use Rattle.tabled_measure.proofs.CellLemmas.{made_more}
 use Rattle.tabled_measure.proofs.Measuring.{cell_at}
@@ -7,5 +7,5 @@ use Rattle.tabled_measure.proofs.changing.changed_row.Goals as goal
 
 pub loop-col-preserved : goal.loop-col-preserved
 loop-col-preserved g c =
-    let here = cell_at string_bytes c.args.cells.now c.loop-col.col c.index-cells-col.result c.loop-col-test.true c.index-cells-col.is in
+    let here = cell_at g.T.AsStr.text c.args.cells.now c.loop-col.col c.index-cells-col.result c.loop-col-test.true c.index-cells-col.is in
     grind (arith, common_steps, made_more)

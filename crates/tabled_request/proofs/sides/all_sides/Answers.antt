@@ -2,7 +2,6 @@
 use Rattle.std.proofs.Common.{◌≡◌, ℕ, ◌<◌, Bool, true, false, if◌then◌else◌, List, Option, Some, None, unwrap_or, length, get_or, map, string_bytes, ap, ◌∙◌, arith}
 use Rattle.std.specs.List.{range_with_len}
 use Rattle.std.proofs.lemmas.List.FromFn.{get_or-map-range_with_len, length-map-range_with_len}
-use Rattle.tabled_numbers.specs.Columns.{cells_of}
 use Rattle.tabled_request.specs.Sides.{side_of}
 use Rattle.tabled_request.specs.declared.sides.ColumnSide.{ColumnSide}
 use Rattle.tabled_request.specs.declared.sides.ColumnSide.TheVariants.{Left, Center, Right}
@@ -30,18 +29,18 @@ chosen_same : (a b c found x y z : Bool) → a ≡ x → b ≡ y → c ≡ z →
 chosen_same a b c found x y z e f g = ap (λ it. chosen it b c found) e ∙ ap (λ it. chosen x it c found) f ∙ ap (λ it. chosen x y it found) g
 
 pub bounds-left-col : goal.bounds-left-col
-bounds-left-col c = inside _ _ _ c.loop-col.col _ _ c.as_slice-left.ensures.value c.in_ok-left.ensures c.column_count-col-end.ensures c.loop-col-test.true
+bounds-left-col g c = inside _ _ _ c.loop-col.col _ _ c.as_slice-left.ensures.value c.in_ok-left.ensures c.column_count-col-end.ensures c.loop-col-test.true
 
 pub bounds-center-col : goal.bounds-center-col
-bounds-center-col c = inside _ _ _ c.loop-col.col _ _ c.as_slice-center.ensures.value c.in_ok-center.ensures c.column_count-col-end.ensures c.loop-col-test.true
+bounds-center-col g c = inside _ _ _ c.loop-col.col _ _ c.as_slice-center.ensures.value c.in_ok-center.ensures c.column_count-col-end.ensures c.loop-col-test.true
 
 pub bounds-right-col : goal.bounds-right-col
-bounds-right-col c = inside _ _ _ c.loop-col.col _ _ c.as_slice-right.ensures.value c.in_ok-right.ensures c.column_count-col-end.ensures c.loop-col-test.true
+bounds-right-col g c = inside _ _ _ c.loop-col.col _ _ c.as_slice-right.ensures.value c.in_ok-right.ensures c.column_count-col-end.ensures c.loop-col-test.true
 
 pub loop-col-preserved : goal.loop-col-preserved
-loop-col-preserved c =
+loop-col-preserved g c =
     c.in_ok-push.ensures.items
-    ∙ one_more_of (side_of c.args.request (map string_bytes c.args.words.now) (cells_of c.args.rows.now)) _ _ c.loop-col.col c.loop-col.invariant
+    ∙ one_more_of (side_of c.args.request (map string_bytes c.args.words.now) (map (λ row. map g.T.AsStr.text row.items) c.args.rows.now)) _ _ c.loop-col.col c.loop-col.invariant
     (c.side_of.ensures ∙ said_is _ _ _ _ _ c.side_said-said.ensures
     ∙ chosen_same _ _ _ _ _ _ _
     (flag_at _ _ _ c.loop-col.col _ _ c.as_slice-left.ensures.value c.in_ok-left.ensures c.column_count-col-end.ensures c.loop-col-test.true)

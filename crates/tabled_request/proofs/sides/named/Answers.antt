@@ -4,7 +4,7 @@ use Rattle.std.specs.List.{range_with_len}
 use Rattle.std.proofs.lemmas.List.{get_or-replicate, length-replicate}
 use Rattle.std.proofs.lemmas.List.FromFn.{fill_by_all}
 use Rattle.std.proofs.lemmas.Result.{IfOk-weaker}
-use Rattle.tabled_numbers.specs.Columns.{cells_of, column_count}
+use Rattle.tabled_numbers.specs.Columns.{column_count}
 use Rattle.tabled_request.specs.Columns.{columns_named, is_one}
 use Rattle.tabled_request.specs.Sides.{headings_of, is_named}
 use Rattle.tabled_request.specs.Words.{word_at}
@@ -22,12 +22,12 @@ module _ (request : Request) (words : List (List ℕ)) (rows : List (List (List 
       ∙ ap (λ n. map (is_named request words rows number) (range_with_len 0 n)) e
 
 pub returns-in-None : goal.returns-in-None
-returns-in-None c =
+returns-in-None g c =
     IfOk-weaker c.no_flags.result (λ flags. flags.items ≡ replicate c.column_count-count.result false)
     (λ flags.
     flags.items
-    ≡ map (is_named c.args.request (map string_bytes c.args.words.now) (cells_of c.args.rows.now) c.args.number) (range_with_len 0 (column_count (cells_of c.args.rows.now))))
+    ≡ map (is_named c.args.request (map string_bytes c.args.words.now) (map (λ row. map g.T.AsStr.text row.items) c.args.rows.now) c.args.number) (range_with_len 0 (column_count (map (λ row. map g.T.AsStr.text row.items) c.args.rows.now))))
     (λ flags e.
     e
-    ∙ none_named c.args.request (map string_bytes c.args.words.now) (cells_of c.args.rows.now) c.args.number c.in-None.ensures c.column_count-count.result c.column_count-count.ensures)
+    ∙ none_named c.args.request (map string_bytes c.args.words.now) (map (λ row. map g.T.AsStr.text row.items) c.args.rows.now) c.args.number c.in-None.ensures c.column_count-count.result c.column_count-count.ensures)
     c.no_flags.ensures

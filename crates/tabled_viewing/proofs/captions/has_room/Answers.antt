@@ -7,7 +7,7 @@ use Rattle.tabled_measure.specs.Sizes.{column_widths}
 use Rattle.tabled_viewing.proofs.captions.has_room.Goals as goal
 
 pub returns-then-all_take_one : goal.returns-then-all_take_one
-returns-then-all_take_one c =
+returns-then-all_take_one g c =
     let texts = c.args.table.now.texts in
     let text = c.args.text.now in
     let count : c.count-count.result ≡ length (chars text) = count_from_yields_List _ c.count-count.result c.count-count.ensures.ran (YieldsList-from_chars c.args.text.now c.utf8.text cc) in

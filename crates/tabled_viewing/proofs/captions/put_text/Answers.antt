@@ -7,7 +7,7 @@ use Rattle.tabled_viewing.specs.Captions.{has_room, written_on_line}
 use Rattle.tabled_viewing.proofs.captions.put_text.Goals as goal
 
 pub returns-then-stands_on_line-clause-config : goal.returns-then-stands_on_line-clause-config
-returns-then-stands_on_line-clause-config c = λ before shows nothing.
+returns-then-stands_on_line-clause-config g c = λ before shows nothing.
     let table = c.args.table.now in
     let events : List ConfigEvent = written_on_line before table.texts (string_bytes c.args.text) c.args.line in
     let stands : (c.args.is_drawn && has_room table.texts (string_bytes c.args.text)) ≡ true =
@@ -18,7 +18,7 @@ returns-then-stands_on_line-clause-config c = λ before shows nothing.
     (c.in_ok-write_on_line.ensures.config before shows nothing)) shows)
 
 pub returns-clause-config : goal.returns-clause-config
-returns-clause-config c = λ before shows nothing.
+returns-clause-config g c = λ before shows nothing.
     let table = c.args.table.now in
     let events : List ConfigEvent = written_on_line before table.texts (string_bytes c.args.text) c.args.line in
     let stands : (c.args.is_drawn && has_room table.texts (string_bytes c.args.text)) ≡ false =

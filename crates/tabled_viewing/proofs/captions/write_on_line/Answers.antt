@@ -6,7 +6,7 @@ use Rattle.tabled_viewing.proofs.OnLines.{line_read}
 use Rattle.tabled_viewing.proofs.captions.write_on_line.Goals as goal
 
 pub returns-clause-config : goal.returns-clause-config
-returns-clause-config c = λ before shows nothing.
+returns-clause-config g c = λ before shows nothing.
     on_ok c.apply.result (λ changed.
     subst (λ es. Changes es c.args.table.now.config c.apply.new.self.config)
     (line_read before c.args.table.now changed.0 c.in_ok-given.given c.args.text.now c.args.line shows.spanned_shown nothing changed.1 c.in_ok-given.ensures) changed.2)

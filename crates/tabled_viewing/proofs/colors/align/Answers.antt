@@ -7,10 +7,10 @@ use Rattle.tabled_viewing.proofs.Applied.{no_column, one_column_more}
 use Rattle.tabled_viewing.proofs.colors.align.Goals as goal
 
 pub loop-col-init : goal.loop-col-init
-loop-col-init c = record { config = no_column c.args.table.now.config c.args.sides.now; texts = refl }
+loop-col-init g c = record { config = no_column c.args.table.now.config c.args.sides.now; texts = refl }
 
 pub loop-col-preserved : goal.loop-col-preserved
-loop-col-preserved c = record {
+loop-col-preserved g c = record {
   config =
       one_column_more c.args.sides.now c.loop-col.col _ c.args.table.now.config c.loop-col.table.config c.align_column.new.table.config (omega arith)
       c.loop-col.invariant.config c.in_ok-align_column.ensures.config;
@@ -18,5 +18,5 @@ loop-col-preserved c = record {
 }
 
 pub returns-clause-config : goal.returns-clause-config
-returns-clause-config c =
+returns-clause-config g c =
     subst (λ sides. Changes (aligned 0 sides) c.args.table.now.config c.loop-col.table.config) (take_all c.loop-col.col c.args.sides.now (omega (arith, c.loop-col-test.false))) c.loop-col.invariant.config

@@ -11,12 +11,12 @@ use Rattle.tabled_viewing.proofs.Applied.{column_set}
 use Rattle.tabled_viewing.proofs.colors.align_column.Goals as goal
 
 pub returns-in-Left-clause-config : goal.returns-in-Left-clause-config
-returns-in-Left-clause-config c =
+returns-in-Left-clause-config g c =
     let table = c.args.table.now.config in
     subst (λ (side : ColumnSide). Changes (aligned_column side c.args.col) table table) (sym c.in-Left.is) (none_change table)
 
 pub returns-in-Center-clause-config : goal.returns-in-Center-clause-config
-returns-in-Center-clause-config c =
+returns-in-Center-clause-config g c =
     let old = c.args.table.now.config in
     let new = c.apply_to.new.self.config in
     on_ok c.apply_to.result (λ made.
@@ -25,7 +25,7 @@ returns-in-Center-clause-config c =
     c.apply_to.ensures.config
 
 pub returns-in-Right-clause-config : goal.returns-in-Right-clause-config
-returns-in-Right-clause-config c =
+returns-in-Right-clause-config g c =
     let old = c.args.table.now.config in
     let new = c.apply_to-in-Right.new.self.config in
     on_ok c.apply_to-in-Right.result (λ made.

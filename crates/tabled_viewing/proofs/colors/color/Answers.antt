@@ -8,7 +8,7 @@ use Rattle.tabled_viewing.specs.Colors.{emboldened, frame_colored}
 use Rattle.tabled_viewing.proofs.colors.color.Goals as goal
 
 pub returns-clause-config : goal.returns-clause-config
-returns-clause-config c =
+returns-clause-config g c =
     let table = c.args.table.now in
     let same = c.in_ok-stripe.ensures.texts in
     let rows = both_change _ (if c.args.request.has_header then emboldened table.texts else []) table.config c.stripe.new.table.config c.embolden.new.table.config c.in_ok-stripe.ensures.config

@@ -11,11 +11,11 @@ use Rattle.tabled_viewing.proofs.Applied.{in_turn, unwanted, wanted}
 use Rattle.tabled_viewing.proofs.colors.embolden.Goals as goal
 
 pub returns-then-not-is_wanted-clause-config : goal.returns-then-not-is_wanted-clause-config
-returns-then-not-is_wanted-clause-config c = unwanted c.args.is_wanted (emboldened c.args.table.now.texts) c.args.table.now.config c.if-not-is_wanted.true
+returns-then-not-is_wanted-clause-config g c = unwanted c.args.is_wanted (emboldened c.args.table.now.texts) c.args.table.now.config c.if-not-is_wanted.true
 
 pub returns-clause-config : goal.returns-clause-config
 unfolding emboldened
-returns-clause-config c =
+returns-clause-config g c =
     let table = c.args.table.now in
     on_ok c.apply_to.result (λ made.
     wanted c.args.is_wanted (emboldened table.texts) table.config c.apply_to.new.self.config c.if-not-is_wanted.false

@@ -8,7 +8,7 @@ use Rattle.tabled_viewing.specs.Colors.{aligned, colored_if}
 use Rattle.tabled_viewing.proofs.colors.place_and_color.Goals as goal
 
 pub returns-clause-config : goal.returns-clause-config
-returns-clause-config c = λ before shows.
+returns-clause-config g c = λ before shows.
     let table = c.args.table.now in
     on_ok c.color_if.result (λ changes.
     Shows_after_change_colored (before ++ aligned 0 c.args.sides.now) (colored_if c.args.is_colored c.args.request table.texts) c.align.new.table.config c.color_if.new.table.config

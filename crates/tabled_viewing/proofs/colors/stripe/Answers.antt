@@ -10,11 +10,11 @@ use Rattle.tabled_viewing.proofs.Applied.{unwanted, wanted}
 use Rattle.tabled_viewing.proofs.colors.stripe.Goals as goal
 
 pub returns-then-not-is_wanted-clause-config : goal.returns-then-not-is_wanted-clause-config
-returns-then-not-is_wanted-clause-config c = unwanted c.args.is_wanted (striped c.args.table.now.texts) c.args.table.now.config c.if-not-is_wanted.true
+returns-then-not-is_wanted-clause-config g c = unwanted c.args.is_wanted (striped c.args.table.now.texts) c.args.table.now.config c.if-not-is_wanted.true
 
 pub returns-clause-config : goal.returns-clause-config
 unfolding striped
-returns-clause-config c =
+returns-clause-config g c =
     let table = c.args.table.now in
     on_ok c.apply.result (λ changed.
     wanted c.args.is_wanted (striped table.texts) table.config c.apply.new.self.config c.if-not-is_wanted.false

@@ -11,7 +11,7 @@ use Rattle.tabled_viewing.specs.View.{has_header_line}
 use Rattle.tabled_viewing.proofs.drawing.draw.Goals as goal
 
 pub returns-then-has_header_line-clause-config : goal.returns-then-has_header_line-clause-config
-returns-then-has_header_line-clause-config c =
+returns-then-has_header_line-clause-config g c =
     let table = c.args.table.now in
     let holds = sym (ap (λ (shape : Shape). has_header_line c.args.request c.args.style shape.rows) c.shape.ensures) ∙ sym c.has_header_line.ensures ∙ c.if-has_header_line.true in
     on_ok c.apply.result (λ changed.
@@ -20,7 +20,7 @@ returns-then-has_header_line-clause-config c =
     c.apply.ensures.config
 
 pub returns-clause-config : goal.returns-clause-config
-returns-clause-config c =
+returns-clause-config g c =
     let table = c.args.table.now in
     let holds = sym (ap (λ (shape : Shape). has_header_line c.args.request c.args.style shape.rows) c.shape.ensures) ∙ sym c.has_header_line.ensures ∙ c.if-has_header_line.false in
     on_ok c.apply-2.result (λ changed.

@@ -9,7 +9,7 @@ use Rattle.tabled_viewing.specs.View.{drawn}
 use Rattle.tabled_viewing.proofs.drawing.draw_borders.Goals as goal
 
 pub returns-clause-config : goal.returns-clause-config
-returns-clause-config c = λ rows are.
+returns-clause-config g c = λ rows are.
     let words = map string_bytes c.args.words.now in
     let table = c.args.table.now in
     on_ok c.outline.result (λ changes.

@@ -5,9 +5,9 @@ use Rattle.tabled_viewing.specs.Notes.{width_missed}
 use Rattle.tabled_viewing.proofs.notes.width_missed.Goals as goal
 
 pub returns-in-Some : goal.returns-in-Some
-returns-in-Some c = λ events shows.
+returns-in-Some g c = λ events shows.
     c.width_if.ensures ∙ ap (λ width. if nat_lt c.in-Some.width width then Some c.in-Some.width else None) (c.least_width.ensures events shows)
     ∙ ap (λ width. width_missed width events c.args.table.now.texts) (sym c.in-Some.is)
 
 pub returns-in-None : goal.returns-in-None
-returns-in-None c = λ events shows. ap (λ width. width_missed width events c.args.table.now.texts) (sym c.in-None.is)
+returns-in-None g c = λ events shows. ap (λ width. width_missed width events c.args.table.now.texts) (sym c.in-None.is)

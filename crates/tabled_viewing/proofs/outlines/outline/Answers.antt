@@ -11,7 +11,7 @@ use Rattle.tabled_viewing.specs.Outlines.{marked, named, outlined}
 use Rattle.tabled_viewing.proofs.outlines.outline.Goals as goal
 
 pub returns-clause-config : goal.returns-clause-config
-returns-clause-config c = λ rows are.
+returns-clause-config g c = λ rows are.
     let words = map string_bytes c.args.words.now in
     let table = c.args.table.now in
     let style = c.args.style in

@@ -11,7 +11,7 @@ use Rattle.tabled_viewing.proofs.Outlined.{nothing_framed}
 use Rattle.tabled_viewing.proofs.page.put_footer.Goals as goal
 
 pub returns-clause-config : goal.returns-clause-config
-returns-clause-config c = λ rows texts shows.
+returns-clause-config g c = λ rows texts shows.
     let table = c.args.table.now.texts in
     let words = map string_bytes c.args.words.now in
     let drawn = framed c.args.request c.args.style words rows texts in

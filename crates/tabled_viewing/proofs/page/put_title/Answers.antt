@@ -9,7 +9,7 @@ use Rattle.tabled_viewing.proofs.Outlined.{nothing_framed}
 use Rattle.tabled_viewing.proofs.page.put_title.Goals as goal
 
 pub returns-clause-config : goal.returns-clause-config
-returns-clause-config c = λ rows texts shows.
+returns-clause-config g c = λ rows texts shows.
     let words = map string_bytes c.args.words.now in
     let before = framed c.args.request c.args.style words rows texts in
     let drawn_above : c.is_some.result ≡ draws_above c.args.style = c.is_some.ensures ∙ (λ i. is_some (c.borders.ensures i).top) in
