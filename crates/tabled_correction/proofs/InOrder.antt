@@ -10,7 +10,7 @@ use Rattle.tabled_object.specs.declared.entity.Entity.TheVariants.{Global}
 use Rattle.tabled_object.specs.declared.position.Position.{Position}
 use Rattle.tabled_object.specs.contracts.position.PositionOrd.TheImpl.Laws.{total-law}
 use Rattle.tabled_object.specs.Entities.{position, rectangle, below, cells_of, is_inside}
-use Rattle.tabled_object.proofs.Sets.{any_here, any_below, any_passing}
+use Rattle.tabled_object.proofs.Sets.{any_here, any_below, any_passing, is_here, same_here}
 use Rattle.tabled_kept.specs.Table.{table}
 use Rattle.tabled_kept.proofs.Ascending.{entries-table}
 use Rattle.tabled_layout.specs.Spans.{position_cmp, same_position}
@@ -111,7 +111,7 @@ those_in_order cells shape test sorted those =
     one_list cells (filter test (cells_of Global shape.0 shape.1)) sorted (IsStrictlySortedBy-filter position_cmp test (cells_of Global shape.0 shape.1) (rows_in_order 0 shape.0 shape.1))
     (λ cell. those cell ∙ swap (is_inside shape.0 shape.1 cell) (test cell)
     ∙ ap (λ b. test cell && b) (sym (any_here cell (below shape.0) (below shape.1) ∙ (λ i. any_below cell.row shape.0 i && any_below cell.col shape.1 i)))
-    ∙ sym (any_passing test cell (cells_of Global shape.0 shape.1)))
+    ∙ sym (any_passing (is_here cell) test cell (same_here cell) (cells_of Global shape.0 shape.1)))
   where
     swap : (x y : Bool) → (x && y) ≡ (y && x)
     swap true true = refl
