@@ -36,6 +36,54 @@ fn columns_of_numbers_are_drawn(rt: HostRuntime) -> Result<(), Fail> {
 }
 
 #[test]
+fn cells_found_by_text_are_drawn(rt: HostRuntime) -> Result<(), Fail> {
+    let text = recipes::cells_found_by_text(rt.alloc())?;
+    let picture = "
+┌──────┬─────┬─────┐
+│ city │ Jan │ Jul │
+├──────┼─────┼─────┤
+│ Oslo │ -4  │  17 │
+│ Rome │  -  │   8 │
+└──────┴─────┴─────┘
+";
+    assert!(rt; is_picture(text.as_str(), picture));
+    Ok(())
+}
+
+#[test]
+fn lines_between_groups_are_drawn(rt: HostRuntime) -> Result<(), Fail> {
+    let text = recipes::lines_between_groups(rt.alloc())?;
+    let picture = "
+╭──────┬───────╮
+│ city │ name  │
+├──────┼───────┤
+│ Oslo │ Alice │
+│ Oslo │ Bob   │
+├──────┼───────┤
+│ Rome │ Carol │
+╰──────┴───────╯
+";
+    assert!(rt; is_picture(text.as_str(), picture));
+    Ok(())
+}
+
+#[test]
+fn equal_neighbors_as_one_are_drawn(rt: HostRuntime) -> Result<(), Fail> {
+    let text = recipes::equal_neighbors_as_one(rt.alloc())?;
+    let picture = "
+┌─────────────┬──────┐
+│ 2026        │ 2027 │
+├──────┬──────┼──────┤
+│ Oslo │ Rome │ Rome │
+│      ├──────┤      │
+│      │ Bern │      │
+└──────┴──────┴──────┘
+";
+    assert!(rt; is_picture(text.as_str(), picture));
+    Ok(())
+}
+
+#[test]
 fn headings_are_drawn(rt: HostRuntime) -> Result<(), Fail> {
     let text = recipes::headings(rt.alloc())?;
     let picture = "

@@ -3,6 +3,8 @@
 use crate::turn::{Named, Outcome, Turn};
 use std::alloc::Global;
 use tabled::builder::Builder;
+use tabled::settings::object::Segment;
+use tabled::settings::style::HorizontalLine;
 use tabled::{TableError, Tabled, TextTable};
 use tabled_input::separated;
 use tabled_grid::{OutOfMemory, Position};
@@ -109,7 +111,7 @@ fn roomy(
 }
 
 /// The calls on tables and records.
-pub(crate) fn tables() -> [Named; 21] {
+pub(crate) fn tables() -> [Named; 26] {
     [
         ("TextTable::of", |turn| {
             turn.spend();
@@ -143,6 +145,37 @@ pub(crate) fn tables() -> [Named; 21] {
             turn.spend();
             let returned = table.align_numbers(0);
             Ok(Outcome::of(returned, are_right(&table, [true, false, true, true]), are_right(&table, [false; 4])))
+        }),
+        ("Table<T>::columns_named", |turn| {
+            let table = table(turn.alloc())?;
+            turn.spend();
+            Ok(Outcome::of_value(table.columns_named("a").map(|columns| columns.len() == 1)))
+        }),
+        ("Table<T>::cells_with", |turn| {
+            let table = table(turn.alloc())?;
+            turn.spend();
+            Ok(Outcome::of_value(table.cells_with("a").map(|cells| cells.len() == 1)))
+        }),
+        ("Table<T>::line_between_groups", |turn| {
+            let mut table = TextTable::new(turn.alloc(), &[&["a"], &["b"]]).map_err(|_refused| OutOfMemory)?;
+            turn.spend();
+            let returned = table.line_between_groups(0, 0, HorizontalLine::new('-').into_inner());
+            let is_set = table.config().config().get_horizontal_line(1).is_some();
+            Ok(Outcome::of(returned, is_set, !is_set))
+        }),
+        ("Table<T>::merge_equal_rows", |turn| {
+            let mut table = TextTable::new(turn.alloc(), &[&["a"], &["a"]]).map_err(|_refused| OutOfMemory)?;
+            turn.spend();
+            let returned = table.merge_equal_rows(Segment::all());
+            let is_set = !table.config().config().get_row_spans().is_empty();
+            Ok(Outcome::of(returned, is_set, !is_set))
+        }),
+        ("Table<T>::merge_equal_columns", |turn| {
+            let mut table = TextTable::new(turn.alloc(), &[&["a", "a"]]).map_err(|_refused| OutOfMemory)?;
+            turn.spend();
+            let returned = table.merge_equal_columns(Segment::all());
+            let is_set = !table.config().config().get_column_spans().is_empty();
+            Ok(Outcome::of(returned, is_set, !is_set))
         }),
         ("separated", |turn| {
             turn.spend();

@@ -8,3 +8,4 @@ pub mod NumericLemmas
 pub mod ColumnLemmas
 pub mod TextLemmas
 pub mod CellLemmas
+pub mod InTurn

@@ -4,3 +4,5 @@ pub mod Changed
 pub mod Edited
 pub mod EditedColumns
 pub mod Numeric
+pub mod Found
+pub mod Runs

@@ -5,6 +5,8 @@
 
 pub mod changing;
 pub mod edited;
+pub mod found;
 pub mod measure;
 pub mod numeric;
+pub mod runs;
 pub mod spanned;

@@ -8,3 +8,4 @@ pub mod ViewLemmas
 pub mod PanelLemmas
 pub mod TableLemmas
 pub mod StreamLemmas
+pub mod GroupLemmas

@@ -4,3 +4,4 @@ pub mod Fitted
 pub mod Panels
 pub mod Streams
 pub mod TableViews
+pub mod Groups

@@ -8,6 +8,8 @@ ghost use Rattle.tabled_text.specs.Refusal.{unequal as refusal_of};
 mod changed;
 mod columns;
 mod copies;
+mod found;
+mod merged;
 mod printing;
 
 use crate::TableError;

@@ -113,6 +113,48 @@ pub fn columns_of_numbers(alloc: Global) -> Result<String, TableError> {
     Ok(table.to_text()?)
 }
 
+/// A column that is found by its heading, and cells that are found by their text.
+pub fn cells_found_by_text(alloc: Global) -> Result<String, TableError> {
+    let rows: &[&[&str]] = &[&["city", "Jan", "Jul"], &["Oslo", "-4", "17"], &["Rome", "-", "8"]];
+    let mut table = TextTable::new(alloc, rows)?;
+    table.with(Style::sharp())?;
+    let july = table.columns_named("Jul")?;
+    let missing = table.cells_with("-")?;
+    table.modify(july, Alignment::right())?;
+    table.modify(missing, Alignment::center())?;
+    Ok(table.to_text()?)
+}
+
+/// A line between groups of rows: where the text of a column changes.
+pub fn lines_between_groups(alloc: Global) -> Result<String, TableError> {
+    let rows: &[&[&str]] = &[
+        &["city", "name"],
+        &["Oslo", "Alice"],
+        &["Oslo", "Bob"],
+        &["Rome", "Carol"],
+    ];
+    let mut table = TextTable::new(alloc, rows)?;
+    table.with(Style::rounded())?;
+    let line = HorizontalLine::inherit(Style::modern()).into_inner();
+    table.line_between_groups(1, 0, line)?;
+    Ok(table.to_text()?)
+}
+
+/// Neighbors with equal texts as one cell.
+pub fn equal_neighbors_as_one(alloc: Global) -> Result<String, TableError> {
+    let rows: &[&[&str]] = &[
+        &["2026", "2026", "2027"],
+        &["Oslo", "Rome", "Rome"],
+        &["Oslo", "Bern", "Rome"],
+    ];
+    let mut table = TextTable::new(alloc, rows)?;
+    table.with(Style::modern())?;
+    table.merge_equal_columns(Rows::first())?;
+    table.merge_equal_rows(Rows::first().inverse())?;
+    table.with(JoinedCorners::new())?;
+    Ok(table.to_text()?)
+}
+
 /// A heading over two columns, beside one over two rows.
 pub fn headings(alloc: Global) -> Result<String, TableError> {
     let rows: &[&[&str]] = &[
