@@ -98,11 +98,7 @@ pub fn runs<T: AsStr>(
 }
 
 /// Lets the first cell of a run span all of it. Where memory is refused nothing changes.
-fn set_span(
-    cfg: &mut SpannedConfig,
-    down: bool,
-    run: (Position, usize),
-) -> Result<(), OutOfMemory>
+fn set_span(cfg: &mut SpannedConfig, down: bool, run: (Position, usize)) -> Result<(), OutOfMemory>
     ensures ok { OnOk result (Changes (spanned_by down run) cfg.old cfg.new) }
     ensures err { OnErr result (cfg.new ≡ cfg.old) }
 {

@@ -115,7 +115,11 @@ pub fn columns_of_numbers(alloc: Global) -> Result<String, TableError> {
 
 /// A column that is found by its heading, and cells that are found by their text.
 pub fn cells_found_by_text(alloc: Global) -> Result<String, TableError> {
-    let rows: &[&[&str]] = &[&["city", "Jan", "Jul"], &["Oslo", "-4", "17"], &["Rome", "-", "8"]];
+    let rows: &[&[&str]] = &[
+        &["city", "Jan", "Jul"],
+        &["Oslo", "-4", "17"],
+        &["Rome", "-", "8"],
+    ];
     let mut table = TextTable::new(alloc, rows)?;
     table.with(Style::sharp())?;
     let july = table.columns_named("Jul")?;
