@@ -1,5 +1,6 @@
 -- Lines between groups, and cells that become one, color no cell.
-use Rattle.std.proofs.Common.{◌≡◌, ℕ, List, [], Bool, true, false, refl}
+use Rattle.std.proofs.Common.{◌≡◌, ℕ, List, [], Bool, true, false, refl, Result, Ok, Err}
+use Rattle.std.specs.Prelude.{OnErr}
 use Rattle.tabled_object.specs.declared.position.Position.{Position}
 use Rattle.tabled_places.specs.Calls.{line_set_horizontal}
 use Rattle.tabled_places.specs.declared.lines.HorizontalLine.{HorizontalLine}
@@ -18,3 +19,8 @@ none_by_span false run = refl
 
 pub none_by_runs : (down : Bool) (runs : List (Position × ℕ)) → cell_colors_of (merged down runs) ≡ []
 none_by_runs down = none_colored (spanned_by down) (none_by_span down)
+
+-- what a refusal leaves, whatever refused
+pub refused_with : {A E P : Type 0} (r : Result A E) → P → OnErr r P
+refused_with (Ok x) left = tt
+refused_with (Err e) left = left

@@ -56,14 +56,14 @@ impl<T: AsStr + Drop> Table<T> {
     /// has equal texts. The lines stand under the numbers of their rows, as custom lines do. Where memory is refused the first of these lines
     /// may have been put.
     ///
-    /// `table.line_between_groups(1, 0, HorizontalLine::inherit(Style::ascii()).into_inner())?`, after the style `psql`:
+    /// `table.line_between_groups(1, 0, HorizontalLine::new('=').intersection('*').into_inner())?`, after the style `psql`:
     ///
     /// ```text
     ///  city | name
     /// ------+-------
     ///  Oslo | Alice
     ///  Oslo | Bob
-    /// +-----+-------+
+    /// ======*=======
     ///  Rome | Carol
     /// ```
     pub fn line_between_groups(
