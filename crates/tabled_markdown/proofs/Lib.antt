@@ -1,0 +1,4 @@
+pub mod Signs
+pub mod Rows
+pub mod Written
+pub mod Lines

@@ -1,0 +1,3 @@
+pub mod Source
+pub mod Reading
+pub mod Table
