@@ -1,7 +1,7 @@
 -- What stands for a text is read as this text, ends no cell and no line, and has no blank at its ends.
-use Rattle.std.proofs.Common.{◌≡◌, ◌==◌, ℕ, ◌-◌, Bool, true, false, not, ◌&&◌, ◌||◌, if◌then◌else◌, List, [], ◌∷◌, ◌++◌, codes, append_assoc, append-nil, refl, sym, ap, ◌∙◌, arith, unwrap_or, Some, None}
+use Rattle.std.proofs.Common.{◌≡◌, ◌==◌, ℕ, ◌-◌, Bool, true, false, not, ◌&&◌, ◌||◌, if◌then◌else◌, List, [], ◌∷◌, ◌++◌, codes, append_assoc, append-nil, refl, sym, ap, ◌∙◌, arith, unwrap_or, Option}
 use Rattle.std.specs.List.{list_all, onto_first}
-use Rattle.std.proofs.lemmas.Bool.{and_from, and_left, and_parts, and_right, eqb-true, not-true}
+use Rattle.std.proofs.lemmas.Bool.{and_from, and_left, and_parts, and_right, cond_both, eqb-true, not-true}
 use Rattle.std.proofs.lemmas.Bool.Decides.{nat_tests}
 use Rattle.std.proofs.lemmas.List.Folds.{list_all-append}
 use Rattle.tabled_markdown.specs.Source.{is_blank, is_mark, is_of_address, backslash, source_of, at_end, to_end, escaped}
@@ -76,71 +76,44 @@ abbrev pub has_backslash : ℕ → ℕ → Bool
 has_backslash before c = is_mark c || is_of_address before c
 
 -- a byte that stands for itself
-pub record IsPlain (c : ℕ) : Type 0 where
+pub record IsPlain (before c : ℕ) : Type 0 where
   pub no_feed : (c == 10) ≡ false
   pub no_return : (c == 13) ≡ false
   pub no_entity : (c == 38) ≡ false
   pub no_tag : (c == 60) ≡ false
-  pub no_mark : is_mark c ≡ false
+  pub no_mark : has_backslash before c ≡ false
 
 module _ (P : List ℕ → Type 0) (before c : ℕ)
     (feed : c ≡ 10 → P (codes "<br>")) (return : c ≡ 13 → P (codes "&#13;")) (entity : c ≡ 38 → P (codes "&amp;")) (tag : c ≡ 60 → P (codes "&lt;"))
-    (marked : has_backslash before c ≡ true → P (92 ∷ c ∷ [])) (plain : IsPlain c → P (c ∷ [])) where
-  by_mark : (b : Bool) → (c == 10) ≡ false → (c == 13) ≡ false → (c == 38) ≡ false → (c == 60) ≡ false → has_backslash before c ≡ b → P ((if b then 92 ∷ [] else []) ++ c ∷ [])
-  by_mark true e f g h k = marked k
-  by_mark false e f g h k = plain (record { no_feed = e; no_return = f; no_entity = g; no_tag = h; no_mark = left_false (is_mark c) (is_of_address before c) k })
-    where
-      left_false : (x y : Bool) → (x || y) ≡ false → x ≡ false
-      left_false true y e = absurd cc
-      left_false false y e = refl
-
-  by_tag : (b : Bool) → (c == 10) ≡ false → (c == 13) ≡ false → (c == 38) ≡ false → (c == 60) ≡ b → P (unwrap_or (if b then Some (codes "&lt;") else None) (backslash before c ++ c ∷ []))
-  by_tag true e f g h = tag (eqb-true c 60 h)
-  by_tag false e f g h = by_mark (has_backslash before c) e f g h refl
-
-  by_entity : (b : Bool) → (c == 10) ≡ false → (c == 13) ≡ false → (c == 38) ≡ b
-      → P (unwrap_or (if b then Some (codes "&amp;") else if c == 60 then Some (codes "&lt;") else None) (backslash before c ++ c ∷ []))
-  by_entity true e f g = entity (eqb-true c 38 g)
-  by_entity false e f g = by_tag (c == 60) e f g refl
-
-  by_return : (b : Bool) → (c == 10) ≡ false → (c == 13) ≡ b
-      → P (unwrap_or (if b then Some (codes "&#13;") else if c == 38 then Some (codes "&amp;") else if c == 60 then Some (codes "&lt;") else None) (backslash before c ++ c ∷ []))
-  by_return true e f = return (eqb-true c 13 f)
-  by_return false e f = by_entity (c == 38) e f refl
-
-  by_feed : (b : Bool) → (c == 10) ≡ b
-      → P (unwrap_or (if b then Some (codes "<br>") else if c == 13 then Some (codes "&#13;") else if c == 38 then Some (codes "&amp;") else if c == 60 then Some (codes "&lt;") else None) (backslash before c ++ c ∷ []))
-  by_feed true e = feed (eqb-true c 10 e)
-  by_feed false e = by_return (c == 13) e refl
+    (marked : has_backslash before c ≡ true → P (92 ∷ c ∷ [])) (plain : IsPlain before c → P (c ∷ [])) where
+  abbrev Of : Option (List ℕ) → Type 0
+  Of word = P (unwrap_or word (backslash before c ++ c ∷ []))
 
   pub source_by : P (source_of before c)
   unfolding source_of
-  source_by = by_feed (c == 10) refl
+  source_by =
+      cond_both (c == 10) _ _ Of (λ e. feed (eqb-true c 10 e))
+      (λ e. cond_both (c == 13) _ _ Of (λ f. return (eqb-true c 13 f))
+      (λ f. cond_both (c == 38) _ _ Of (λ g. entity (eqb-true c 38 g))
+      (λ g. cond_both (c == 60) _ _ Of (λ h. tag (eqb-true c 60 h))
+      (λ h. cond_both (has_backslash before c) (92 ∷ []) [] (λ start. P (start ++ c ∷ [])) marked
+      (λ k. plain (record { no_feed = e; no_return = f; no_entity = g; no_tag = h; no_mark = k }))))))
 
 module _ (P : List ℕ → Type 0) (before c : ℕ)
     (space : c ≡ 32 → P (codes "&#32;")) (tabulator : c ≡ 9 → P (codes "&#9;")) (vertical : c ≡ 11 → P (codes "&#11;")) (form : c ≡ 12 → P (codes "&#12;"))
     (other : is_blank c ≡ false → P (source_of before c)) where
-  by_form : (b : Bool) → (c == 32) ≡ false → (c == 9) ≡ false → (c == 11) ≡ false → (c == 12) ≡ b → P (unwrap_or (if b then Some (codes "&#12;") else None) (source_of before c))
-  by_form true e f g h = form (eqb-true c 12 h)
-  by_form false e f g h = other (grind (arith, nat_tests))
-
-  by_vertical : (b : Bool) → (c == 32) ≡ false → (c == 9) ≡ false → (c == 11) ≡ b
-      → P (unwrap_or (if b then Some (codes "&#11;") else if c == 12 then Some (codes "&#12;") else None) (source_of before c))
-  by_vertical true e f g = vertical (eqb-true c 11 g)
-  by_vertical false e f g = by_form (c == 12) e f g refl
-
-  by_tabulator : (b : Bool) → (c == 32) ≡ false → (c == 9) ≡ b
-      → P (unwrap_or (if b then Some (codes "&#9;") else if c == 11 then Some (codes "&#11;") else if c == 12 then Some (codes "&#12;") else None) (source_of before c))
-  by_tabulator true e f = tabulator (eqb-true c 9 f)
-  by_tabulator false e f = by_vertical (c == 11) e f refl
-
-  by_space : (b : Bool) → (c == 32) ≡ b
-      → P (unwrap_or (if b then Some (codes "&#32;") else if c == 9 then Some (codes "&#9;") else if c == 11 then Some (codes "&#11;") else if c == 12 then Some (codes "&#12;") else None) (source_of before c))
-  by_space true e = space (eqb-true c 32 e)
-  by_space false e = by_tabulator (c == 9) e refl
+  abbrev AtEnd : Option (List ℕ) → Type 0
+  AtEnd word = P (unwrap_or word (source_of before c))
 
   at_end_by : P (at_end before c)
-  at_end_by = by_space (c == 32) refl
+  at_end_by =
+      cond_both (c == 32) _ _ AtEnd (λ e. space (eqb-true c 32 e))
+      (λ e. cond_both (c == 9) _ _ AtEnd (λ f. tabulator (eqb-true c 9 f))
+      (λ f. cond_both (c == 11) _ _ AtEnd (λ g. vertical (eqb-true c 11 g))
+      (λ g. cond_both (c == 12) _ _ AtEnd (λ h. form (eqb-true c 12 h)) (λ h. other (no_blank_of (c == 32) (c == 9) (c == 11) (c == 12) e f g h)))))
+    where
+      no_blank_of : (a b d n : Bool) → a ≡ false → b ≡ false → d ≡ false → n ≡ false → (a || b || d || n) ≡ false
+      no_blank_of a b d n e f g h = λ i. e i || f i || g i || h i
 
 -- ---- each is read
 
@@ -153,11 +126,11 @@ mark_is_on_line before c e = grind (arith, nat_tests)
 mark_is_letter : (before c : ℕ) → has_backslash before c ≡ true → is_blank c ≡ false
 mark_is_letter before c e = grind (arith, nat_tests)
 
-no_bar : (c : ℕ) → is_mark c ≡ false → (c == 124) ≡ false
-no_bar c e = grind (arith, nat_tests)
+no_bar : (before c : ℕ) → has_backslash before c ≡ false → (c == 124) ≡ false
+no_bar before c e = grind (arith, nat_tests)
 
-no_backslash : (c : ℕ) → is_mark c ≡ false → (c == 92) ≡ false
-no_backslash c e = grind (arith, nat_tests)
+no_backslash : (before c : ℕ) → has_backslash before c ≡ false → (c == 92) ≡ false
+no_backslash before c e = grind (arith, nat_tests)
 
 on_line : (c : ℕ) → is_line_end c ≡ false → IsOneLine (c ∷ [])
 on_line c e = ap (λ b. not b && true) e
@@ -169,10 +142,10 @@ word_stands c byte word is reads bars line = record {
   one_line = line;
 }
 
-plain_stands : (c : ℕ) → IsPlain c → Stands (c ∷ []) (c ∷ [])
-plain_stands c is = record {
-  reads = λ rest. signed c rest (sign 1 c) (plain_sign c rest is.no_tag is.no_entity (no_backslash c is.no_mark));
-  passes = bare_passes (c ∷ []) (ap (λ b. not b && true) (no_bar c is.no_mark));
+plain_stands : (before c : ℕ) → IsPlain before c → Stands (c ∷ []) (c ∷ [])
+plain_stands before c is = record {
+  reads = λ rest. signed c rest (sign 1 c) (plain_sign c rest is.no_tag is.no_entity (no_backslash before c is.no_mark));
+  passes = bare_passes (c ∷ []) (ap (λ b. not b && true) (no_bar before c is.no_mark));
   one_line = on_line c (ap (λ b. b || (c == 13)) is.no_feed ∙ is.no_return);
 }
 
@@ -187,7 +160,7 @@ source_stands : (before c : ℕ) → Stands (c ∷ []) (source_of before c)
 unfolding first_sign
 source_stands before c =
     source_by (Stands (c ∷ [])) before c (λ e. word_stands c 10 (codes "<br>") e (λ rest. refl) refl refl) (λ e. word_stands c 13 (codes "&#13;") e (λ rest. refl) refl refl)
-    (λ e. word_stands c 38 (codes "&amp;") e (λ rest. refl) refl refl) (λ e. word_stands c 60 (codes "&lt;") e (λ rest. refl) refl refl) (marked_stands before c) (plain_stands c)
+    (λ e. word_stands c 38 (codes "&amp;") e (λ rest. refl) refl refl) (λ e. word_stands c 60 (codes "&lt;") e (λ rest. refl) refl refl) (marked_stands before c) (plain_stands before c)
 
 at_end_stands : (before c : ℕ) → Stands (c ∷ []) (at_end before c)
 unfolding first_sign

@@ -12,7 +12,7 @@ is_blank c = (c == 32) || (c == 9) || (c == 11) || (c == 12)
 abbrev pub is_mark : ℕ → Bool
 is_mark c = list_any (λ mark. c == mark) (36 ∷ 42 ∷ 91 ∷ 92 ∷ 93 ∷ 95 ∷ 96 ∷ 124 ∷ 126 ∷ [])
 
--- the slash of "://", or the point of "www.": an address would become a link, in which a backslash is shown
+-- a slash after a colon, as in "://", or a point after a w, as in "www.": an address would become a link, in which a backslash is shown
 abbrev pub is_of_address : ℕ → ℕ → Bool
 is_of_address before c = ((before == 58) && (c == 47)) || ((before == 119) && (c == 46))
 
@@ -48,9 +48,9 @@ at_end before c = unwrap_or (blank_word c) (source_of before c)
 -- ---- a text
 
 -- what stands for bytes after another
-abbrev pub between : ℕ → List ℕ → List ℕ
-between before [] = []
-between before (c ∷ more) = source_of before c ++ between c more
+abbrev pub source_after : ℕ → List ℕ → List ℕ
+source_after before [] = []
+source_after before (c ∷ more) = source_of before c ++ source_after c more
 
 -- what stands for the bytes after another, of which the last is that of a text
 abbrev pub to_end : ℕ → List ℕ → List ℕ

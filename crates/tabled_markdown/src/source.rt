@@ -3,7 +3,7 @@
 ghost use Rattle.std.specs.Prelude.{◌≡◌, ◌++◌, ◌||◌, ℕ, List, IfOk, OnOk, encode_utf8, string_bytes};
 ghost use Rattle.std.specs.Option.{option_map};
 ghost use Rattle.tabled_markdown.specs.Reading.{read_text};
-ghost use Rattle.tabled_markdown.specs.Source.{backslash, between, blank_word, escaped, is_mark, is_of_address, to_end, word_of};
+ghost use Rattle.tabled_markdown.specs.Source.{backslash, source_after, blank_word, escaped, is_mark, is_of_address, to_end, word_of};
 
 use std::alloc::{AllocError, Global};
 
@@ -58,7 +58,7 @@ fn backslash(before: char, character: char) -> &'static str
 
 /// Puts what stands for a character after another.
 fn put(written: &mut String, before: char, character: char) -> Result<(), AllocError>
-    ensures { (more : List ℕ) → OnOk result (string_bytes written.new ++ between character more ≡ string_bytes written.old ++ between before (encode_utf8 character ++ more)) }
+    ensures { (more : List ℕ) → OnOk result (string_bytes written.new ++ source_after character more ≡ string_bytes written.old ++ source_after before (encode_utf8 character ++ more)) }
 {
     if let Some(word) = word_of(character) {
         written.push_str(word)?;
@@ -69,9 +69,9 @@ fn put(written: &mut String, before: char, character: char) -> Result<(), AllocE
     Ok(())
 }
 
-/// Puts what stands for a text whose ends are no blanks.
-fn put_between(written: &mut String, text: &str) -> Result<(), AllocError>
-    ensures { OnOk result (string_bytes written.new ≡ string_bytes written.old ++ between 32 text.now) }
+/// Puts what stands for a text, after a space, where others follow.
+fn put_inner(written: &mut String, text: &str) -> Result<(), AllocError>
+    ensures { OnOk result (string_bytes written.new ≡ string_bytes written.old ++ source_after 32 text.now) }
 {
     let mut before = ' ';
     for character in text.chars() {
@@ -96,7 +96,7 @@ fn cut_start(text: &str) -> (&'static str, &str)
 
 /// The text before the blank that it ends with, and the word for it, or nothing.
 fn cut_end(text: &str) -> (&str, &'static str)
-    ensures { to_end 32 text.now ≡ between 32 result.0.now ++ result.1.now }
+    ensures { to_end 32 text.now ≡ source_after 32 result.0.now ++ result.1.now }
 {
     match text.as_bytes() {
         [.., last] => match blank_word(*last) {
@@ -114,7 +114,7 @@ pub(crate) fn put_escaped(written: &mut String, text: &str) -> Result<(), AllocE
     let (start, rest) = cut_start(text);
     let (inner, end) = cut_end(rest);
     written.push_str(start)?;
-    put_between(written, inner)?;
+    put_inner(written, inner)?;
     written.push_str(end)?;
     Ok(())
 }
@@ -123,8 +123,9 @@ pub(crate) fn put_escaped(written: &mut String, text: &str) -> Result<(), AllocE
 ///
 /// A line feed is written `<br>`, a carriage return `&#13;`, `&` is `&amp;` and `<` is `&lt;`. A blank at the start or at the end, where it would
 /// be lost, is written by its number, as `&#32;` for a space; so are a tabulator, a vertical one and a form feed. A backslash stands before each
-/// of `$ * [ \ ] _ ` | ~`, at which something else than a text may begin or end, and before the slash of `://` and the point of `www.`, so that
-/// no address becomes a link, in which other backslashes would be shown. All else is itself: `! > # - + .` begin nothing within a cell.
+/// of `$ * [ \ ] _ ` | ~`, at which something else than a text may begin or end, and before a slash after a colon and a point after a `w`, so that
+/// neither `https://` nor `www.` begins a link, in which other backslashes would be shown. All else is itself: `! > # - +` begin nothing within
+/// a cell.
 ///
 /// What GitHub makes of words that it has read, as of `:smile:`, `@name` or `#7`, is not held back, and a zero character can't be written.
 /// Only memory can be refused.

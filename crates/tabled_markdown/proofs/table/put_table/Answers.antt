@@ -1,7 +1,6 @@
 -- The lines of the first row, of the sides and of the other rows.
-use Rattle.std.proofs.Common.{◌++◌, Global, List, Vec, map, string_bytes, sym, ap, ◌∙◌, ℕ}
+use Rattle.std.proofs.Common.{Global, List, Vec, map, string_bytes, ap, ℕ}
 use lib.Utf8.{encode}
-use Rattle.tabled_markdown.specs.Table.{markdown, row_line}
 use Rattle.tabled_markdown.proofs.Lines.{none_put, table_put}
 use Rattle.tabled_markdown.proofs.table.put_table.Goals as goal
 
@@ -9,11 +8,8 @@ pub returns-in_ok-put_rows-in-Some : goal.returns-in_ok-put_rows-in-Some
 unfolding encode
 returns-in_ok-put_rows-in-Some g c =
     let texts : Vec g.row.T.Denot Global → List (List ℕ) = λ row. map g.T.AsStr.text row.items in
-    let before = string_bytes c.args.text.now in
-    table_put texts c.args.count c.args.sides.now (texts c.in-Some.first.now) c.in-Some.others.now before _ _ _ _
-    (c.in_ok-put_row-in-Some.ensures ∙ ap (λ cells. before ++ row_line c.args.count (map g.T.AsStr.text cells)) c.deref.ensures.value)
-    c.in_ok-push-in-Some.ensures.bytes c.in_ok-put_sides-in-Some.ensures c.in_ok-put_rows-in-Some.ensures
-    ∙ ap (λ rows. before ++ markdown c.args.count c.args.sides.now (map texts rows)) (sym c.in-Some.ensures.cases.0)
+    table_put texts c.args.count c.args.sides.now c.args.rows.now c.in-Some.first.now c.in-Some.others.now (map g.T.AsStr.text c.deref.result.now) (string_bytes c.args.text.now) _ _ _ _ c.in-Some.ensures.cases.0
+    (ap (map g.T.AsStr.text) c.deref.ensures.value) c.in_ok-put_row-in-Some.ensures c.in_ok-push-in-Some.ensures.bytes c.in_ok-put_sides-in-Some.ensures c.in_ok-put_rows-in-Some.ensures
 
 pub returns-in-None : goal.returns-in-None
 returns-in-None g c =
