@@ -123,12 +123,12 @@ pub(crate) fn put_escaped(written: &mut String, text: &str) -> Result<(), AllocE
 ///
 /// A line feed is written `<br>`, a carriage return `&#13;`, `&` is `&amp;` and `<` is `&lt;`. A blank at the start or at the end, where it would
 /// be lost, is written by its number, as `&#32;` for a space; so are a tabulator, a vertical one and a form feed. A backslash stands before each
-/// of `$ * [ \ ] _ ` | ~`, at which something else than a text may begin or end, and before a slash after a colon and a point after a `w`, so that
-/// neither `https://` nor `www.` begins a link, in which other backslashes would be shown. All else is itself: `! > # - +` begin nothing within
-/// a cell.
+/// of ``$ * [ \ ] _ ` | ~``, at which something else than a text may begin or end, and before a slash after a colon and a point after a `w`, so
+/// that neither `https://` nor `www.` begins a link, in which other backslashes would be shown. All else is itself: `! > # - +` begin nothing
+/// within a cell.
 ///
-/// What GitHub makes of words that it has read, as of `:smile:`, `@name` or `#7`, is not held back, and a zero character can't be written.
-/// Only memory can be refused.
+/// What GitHub makes of words that it has read, as of `:smile:`, `@name` or `#7`, is not held back, and a zero character, which markdown can't
+/// have, is not kept. Only memory can be refused.
 ///
 /// ```text
 /// a|b, and c*    a\|b, and c\*
