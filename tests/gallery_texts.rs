@@ -84,6 +84,19 @@ fn equal_neighbors_as_one_are_drawn(rt: HostRuntime) -> Result<(), Fail> {
 }
 
 #[test]
+fn table_in_markdown_is_drawn(rt: HostRuntime) -> Result<(), Fail> {
+    let text = recipes::table_in_markdown(rt.alloc())?;
+    let picture = "
+| case | in % |
+| --- | --: |
+| a &lt; b | 30 |
+| two<br>lines | 7 |
+";
+    assert!(rt; is_picture(text.as_str(), picture));
+    Ok(())
+}
+
+#[test]
 fn headings_are_drawn(rt: HostRuntime) -> Result<(), Fail> {
     let text = recipes::headings(rt.alloc())?;
     let picture = "

@@ -1,6 +1,8 @@
 //! Tables in markdown.
 
 use std::test::Fail;
+use tabled::settings::Style;
+use tabled::{TableError, TextTable};
 use tabled_markdown::{Side, escaped, markdown};
 
 /// Texts, and how they stand in a cell.
@@ -84,5 +86,16 @@ fn a_heading_alone_and_no_rows(rt: HostRuntime) -> Result<(), Fail> {
     let no_rows: Vec<Vec<String>> = Vec::new(rt.alloc());
     let nothing = markdown(rt.alloc(), &no_rows, &[Side::Left], 2)?;
     assert!(rt; nothing.is_empty(), "{nothing}");
+    Ok(())
+}
+
+#[test]
+fn a_table_in_markdown(rt: HostRuntime) -> Result<(), TableError> {
+    let mut table = TextTable::new(rt.alloc(), &[&["name", "in %"], &["a|b", "30"], &["two\nlines", " 7"]])?;
+    table.with(Style::rounded())?;
+    let text = table.to_markdown(&[Side::Plain, Side::Right])?;
+    let expected = "| name | in % |\n| --- | --: |\n| a\\|b | 30 |\n| two<br>lines | &#32;7 |";
+    assert_eq!(rt; text.as_str(), expected);
+    assert_eq!(rt; escaped(rt.alloc(), "1 < 2 & *")?.as_str(), "1 &lt; 2 &amp; \\*");
     Ok(())
 }

@@ -3,6 +3,7 @@
 use crate::turn::{Named, Outcome, Turn};
 use std::alloc::Global;
 use tabled::builder::Builder;
+use tabled::markdown::{escaped, markdown};
 use tabled::settings::object::Segment;
 use tabled::settings::style::HorizontalLine;
 use tabled::{TableError, Tabled, TextTable};
@@ -111,7 +112,7 @@ fn roomy(
 }
 
 /// The calls on tables and records.
-pub(crate) fn tables() -> [Named; 26] {
+pub(crate) fn tables() -> [Named; 29] {
     [
         ("TextTable::of", |turn| {
             turn.spend();
@@ -162,6 +163,20 @@ pub(crate) fn tables() -> [Named; 26] {
             let returned = table.line_between_groups(0, 0, HorizontalLine::new('-').into_inner());
             let is_set = table.config().config().get_horizontal_line(1).is_some();
             Ok(Outcome::of(returned, is_set, !is_set))
+        }),
+        ("Table<T>::to_markdown", |turn| {
+            let table = table(turn.alloc())?;
+            turn.spend();
+            Ok(Outcome::of_value(table.to_markdown(&[]).map(|text| !text.is_empty())))
+        }),
+        ("markdown", |turn| {
+            let table = table(turn.alloc())?;
+            turn.spend();
+            Ok(Outcome::of_value(markdown(turn.alloc(), table.texts(), &[], 1).map(|text| !text.is_empty())))
+        }),
+        ("escaped", |turn| {
+            turn.spend();
+            Ok(Outcome::of_value(escaped(turn.alloc(), "a|b").map(|text| text.as_str() == "a\\|b")))
         }),
         ("Table<T>::merge_equal_rows", |turn| {
             let mut table = TextTable::new(turn.alloc(), &[&["a"], &["a"]]).map_err(|_refused| OutOfMemory)?;

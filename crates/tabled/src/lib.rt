@@ -21,6 +21,7 @@
 
 pub mod builder;
 pub mod grid;
+pub mod markdown;
 pub mod proved;
 pub mod settings;
 pub mod texts;

@@ -9,3 +9,4 @@ pub mod PanelLemmas
 pub mod TableLemmas
 pub mod StreamLemmas
 pub mod GroupLemmas
+pub mod MarkdownLemmas

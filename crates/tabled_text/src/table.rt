@@ -9,6 +9,7 @@ mod changed;
 mod columns;
 mod copies;
 mod found;
+mod markdown;
 mod merged;
 mod printing;
 

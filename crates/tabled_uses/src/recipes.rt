@@ -2,6 +2,7 @@
 //! `tests/gallery_settings.rs` holds the picture that it draws; `docs/GALLERY.md` is made of them.
 
 use std::alloc::Global;
+use tabled::markdown::Side;
 use tabled::settings::object::{Cell, Columns, Combine, Rows, Segment};
 use tabled::settings::style::{Border, BorderColor, HorizontalLine, LineText};
 use tabled::settings::themes::{BorderCorrection, JoinedCorners};
@@ -157,6 +158,15 @@ pub fn equal_neighbors_as_one(alloc: Global) -> Result<String, TableError> {
     table.merge_equal_rows(Rows::first().inverse())?;
     table.with(JoinedCorners::new())?;
     Ok(table.to_text()?)
+}
+
+/// A table in markdown, which GitHub shows as these very cells.
+pub fn table_in_markdown(alloc: Global) -> Result<String, TableError> {
+    let table = TextTable::new(
+        alloc,
+        &[&["case", "in %"], &["a < b", "30"], &["two\nlines", "7"]],
+    )?;
+    Ok(table.to_markdown(&[Side::Plain, Side::Right])?)
 }
 
 /// A heading over two columns, beside one over two rows.
