@@ -1,6 +1,5 @@
 -- A table whose rows have as many cells each is whole in its columns.
 use Rattle.std.proofs.Common.{◌≡◌, ℕ, List, [], ◌∷◌, None, map, length, refl, sym}
-use Rattle.std.specs.List.{All}
 use Rattle.std.proofs.lemmas.List.Elements.{All-head, All-tail}
 use Rattle.std.proofs.lemmas.List.FromFn.{fill_by_all}
 use Rattle.tabled_markdown.specs.Table.{cell, fitted}

@@ -30,11 +30,10 @@ returns-clause-err g c =
     let starts = group_starts c.args.headings c.args.column c.args.self.now.texts in
     let found : c.deref.result.now ≡ starts =
     c.deref.ensures.value ∙ c.in_ok-starts.ensures ∙ (λ i. filter (begins_group c.args.headings c.args.column (c.texts.ensures i)) (below (c.shape-count.ensures i).rows)) in
-    on_err c.put_lines.result (λ first.
-    (
+    on_err c.put_lines.result (λ first. (
       first.0,
       subst (λ old. Changes (lines_above c.args.line (take first.0 starts)) old (record { spanned = c.put_lines.new.cfg; cell_colors = c.deref_mut.result.now.cell_colors }))
-      (c.deref_mut.ensures.value ∙ ap (λ (drawing : Drawing). drawing.config) c.self.view_is)
-      (Changes_lent _ _ c.deref_mut.result.now _ _ c.config_mut.ensures.value (ap (λ some. lines_above c.args.line (take first.0 some)) found) (none_by_lines c.args.line (take first.0 starts)) first.1),
+          (c.deref_mut.ensures.value ∙ ap (λ (drawing : Drawing). drawing.config) c.self.view_is)
+          (Changes_lent _ _ c.deref_mut.result.now _ _ c.config_mut.ensures.value (ap (λ some. lines_above c.args.line (take first.0 some)) found) (none_by_lines c.args.line (take first.0 starts)) first.1),
     ))
     c.put_lines.ensures.err

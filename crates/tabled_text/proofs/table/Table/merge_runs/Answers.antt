@@ -1,5 +1,5 @@
 -- The runs are found, and then merged.
-use Rattle.std.proofs.Common.{◌≡◌, ℕ, List, length, take, ap, subst, ◌∙◌}
+use Rattle.std.proofs.Common.{◌≡◌, length, take, ap, subst, ◌∙◌}
 use Rattle.tabled_grid.proofs.Seen.{on_ok, on_err}
 use Rattle.tabled_object.specs.Listing.{covered}
 use Rattle.tabled_changes.proofs.ColoredLemmas.{Changes_lent}
@@ -37,11 +37,10 @@ returns-clause-err g c =
     let found : c.deref.result.now ≡ all =
     c.deref.ensures.value ∙ c.in_ok-found.ensures
     ∙ (λ i. runs c.args.down (λ cell. (c.in_ok-entities.ensures cell ∙ (λ j. covered (g.O.Object.listing c.args.object.now (c.shape-shape.ensures j).rows (c.shape-shape.ensures j).cols) cell)) i) (c.texts.ensures i)) in
-    on_err c.merge.result (λ first.
-    (
+    on_err c.merge.result (λ first. (
       first.0,
       subst (λ old. Changes (merged c.args.down (take first.0 all)) old (record { spanned = c.merge.new.cfg; cell_colors = c.deref_mut.result.now.cell_colors }))
-      (c.deref_mut.ensures.value ∙ ap (λ (drawing : Drawing). drawing.config) c.self.view_is)
-      (Changes_lent _ _ c.deref_mut.result.now _ _ c.config_mut.ensures.value (ap (λ some. merged c.args.down (take first.0 some)) found) (none_by_runs c.args.down (take first.0 all)) first.1),
+          (c.deref_mut.ensures.value ∙ ap (λ (drawing : Drawing). drawing.config) c.self.view_is)
+          (Changes_lent _ _ c.deref_mut.result.now _ _ c.config_mut.ensures.value (ap (λ some. merged c.args.down (take first.0 some)) found) (none_by_runs c.args.down (take first.0 all)) first.1),
     ))
     c.merge.ensures.err
