@@ -10,6 +10,7 @@
 pub mod cells;
 pub mod columns;
 pub mod lent;
+pub mod markdown;
 pub mod painted;
 pub mod steering;
 pub mod tables;
