@@ -81,3 +81,34 @@ fn a_table_without_rows_has_no_runs(rt: HostRuntime) -> Result<(), TableError> {
     assert!(rt; table.config().config().get_row_spans().is_empty());
     Ok(())
 }
+
+#[test]
+fn builds_of_two_systems(rt: HostRuntime) -> Result<(), TableError> {
+    let rows: &[&[&str]] = &[
+        &["system", "version", "build", "status"],
+        &["linux", "12", "debug", "ok"],
+        &["linux", "12", "release", "ok"],
+        &["linux", "13", "debug", "failed"],
+        &["mac", "13", "debug", "ok"],
+        &["mac", "14", "release", "ok"],
+    ];
+    let mut table = TextTable::new(rt.alloc(), rows)?;
+    table.with(Style::modern())?;
+    table.merge_equal_rows(Columns::one(2).inverse())?;
+    table.with(JoinedCorners::new())?;
+    let expected = "┌────────┬─────────┬─────────┬────────┐\n\
+                    │ system │ version │ build   │ status │\n\
+                    ├────────┼─────────┼─────────┼────────┤\n\
+                    │ linux  │ 12      │ debug   │ ok     │\n\
+                    │        │         ├─────────┤        │\n\
+                    │        │         │ release │        │\n\
+                    │        ├─────────┼─────────┼────────┤\n\
+                    │        │ 13      │ debug   │ failed │\n\
+                    ├────────┤         ├─────────┼────────┤\n\
+                    │ mac    │         │ debug   │ ok     │\n\
+                    │        ├─────────┼─────────┤        │\n\
+                    │        │ 14      │ release │        │\n\
+                    └────────┴─────────┴─────────┴────────┘";
+    assert_eq!(rt; table.to_text()?.as_str(), expected);
+    Ok(())
+}
